@@ -1,0 +1,1 @@
+// No code: specs/Cases.antt is the one statement over the proved cases of document 01.

@@ -1,0 +1,13 @@
+pub mod Bits
+pub mod Spelled
+pub mod Steps
+pub mod Chain
+pub mod Order
+pub mod Accepts
+pub mod Passes
+pub mod RoundTrip
+pub mod Loop
+pub mod Writes
+pub mod Sizes
+pub mod Whole
+pub mod OneOctet

@@ -1,0 +1,50 @@
+-- `tsar::decode::param_at` meets its contract: past the end nothing is left to read. Assumes nothing.
+use mathlib.Core.Path.{_≡_, refl, sym, ap, _∙_}
+use mathlib.Core.List.{[]}
+use native.Mathlib.Nat.{le-of-lt, le-of-eq}
+use borrow.Author.Needs.{needs}
+use lib.ListN.{drop, drop-of-length-le, length-drop}
+use lib.Seq.{take-all}
+use Rattle.tsar.specs.declared.decode.Params.{Params}
+use Rattle.tsar.specs.declared.SegmentType.{SegmentType}
+use Rattle.tsar.specs.declared.decode.Step.the-variants.{Stop}
+use Rattle.tsar.specs.Reading.{stepOf}
+use Rattle.tsar.proofs.decode.param_at.Statement.{statement}
+use Rattle.tsar.proofs.decode.param_at.Tie as tie
+
+at-end : (k : SegmentType) (p : Params) → stepOf k p [] ≡ Stop
+unfolding stepOf
+at-end k p = refl
+
+returns : tie.Need-returns
+returns c =
+    let a = c .before .before .args in
+    sym (ap (stepOf (a .kind) (a .p)) (drop-of-length-le (a .bytes .now) (le-of-lt (c .if1 .taken))) ∙ at-end (a .kind) (a .p))
+
+sub-read-param : tie.Need-sub-read-param
+sub-read-param c = search needs
+
+part-read-param-start : tie.Need-part-read-param-start
+part-read-param-start c = search needs
+
+part-read-param-end : tie.Need-part-read-param-end
+part-read-param-end c = search needs
+
+read-param-requires : tie.Need-read-param-requires
+read-param-requires c κs = search needs
+
+returns-2 : tie.Need-returns-2
+returns-2 c =
+    let a = c .before .before .before .before .args in
+    c .read-param .ensures ∙ ap (stepOf (a .kind) (a .p)) (take-all _ (drop (a .offset) (a .bytes .now)) (le-of-eq (length-drop (a .offset) (a .bytes .now))))
+
+pub param-at-spec : {M : Type 1} → statement M
+param-at-spec =
+    tie.close
+    (tie.spec
+    returns
+    sub-read-param
+    part-read-param-start
+    part-read-param-end
+    read-param-requires
+    returns-2)

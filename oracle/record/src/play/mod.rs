@@ -1,0 +1,6 @@
+//! From a case's input to its answer, by calling the original.
+
+pub mod codec;
+pub mod plan;
+pub mod receiver;
+pub mod sender;
