@@ -1,0 +1,150 @@
+// The receiver of one transaction: link/tsar/receiver.rs of the source.
+use link::HigherLayerProtocol;
+use link::MobileIdentity;
+use response::AcknowledgmentMap;
+use response::OptionalServicesSupport;
+use response::Response;
+use response::Status;
+use response::SupportList;
+use tsar::AcknowledgmentWindow;
+use tsar::Compression;
+use tsar::CrcStatus;
+use tsar::Error;
+use tsar::MessageCrc;
+use tsar::MessageLength;
+use tsar::OptionalServices;
+use tsar::Segment;
+use tsar::SegmentKind;
+use tsar::Services;
+use tsar::Validated;
+use words::Found;
+use words::Words;
+
+pub enum ReceiverState {
+    AwaitingBegin,
+    Receiving,
+    Complete,
+    Failed(Status),
+    Expired,
+    Canceled,
+}
+
+// The sequence of the End, once one is held: the source's Option<u8>.
+pub enum EndSequence {
+    Unknown,
+    At(u8),
+}
+
+// The source's Option<u64>.
+pub enum Deadline {
+    Off,
+    At(u64),
+}
+
+// What try_new fixes.
+pub struct Terms {
+    pub peer: MobileIdentity,
+    pub protocol: HigherLayerProtocol,
+    pub transaction_id: u8,
+    pub version: u8,
+    pub maximum_message_octets: usize,
+}
+
+pub struct Progress {
+    pub state: ReceiverState,
+    pub services: OptionalServices,
+    pub end_sequence: EndSequence,
+    pub message_length: MessageLength,
+    pub stored_octets: usize,
+    pub deadline_monotonic_ms: Deadline,
+    pub last_monotonic_ms: u64,
+}
+
+// The kind of a held segment, with its parameters.
+pub struct Slot {
+    pub kind: SegmentKind,
+}
+
+// A slot is held where held marks it, and only there. Its record is then its kind and its data length; its data are in the lent store.
+pub struct Receiver {
+    pub terms: Terms,
+    pub progress: Progress,
+    pub held: Words,
+    pub lengths: [u16; 256],
+    pub slots: [Slot; 256],
+}
+
+// The last three are document 01's 60, 61 and 62, which the source has not.
+pub enum ReceiveError {
+    Identity,
+    Service,
+    TransactionId,
+    Codec(Error),
+    ClockRegression,
+    TimeOverflow,
+    UnparsedSegment,
+    BeginRequired,
+    TimerDue,
+    Closed,
+    Store,
+    Output,
+    ImpossibleState,
+}
+
+// A response that a call asks for: the source's Option<Response>.
+pub enum Reply {
+    Nothing,
+    Response(Response),
+}
+
+// A message that a call hands over: the first octets of the output, as many as this counts.
+pub enum Message {
+    Nothing,
+    Octets(usize),
+}
+
+pub struct Reception {
+    pub response: Reply,
+    pub message: Message,
+}
+
+pub enum TryNewAnswer {
+    Made,
+    Refused(ReceiveError),
+}
+
+pub enum ReceiveAnswer {
+    Received(Reception),
+    Refused(ReceiveError),
+}
+
+pub enum AdvanceAnswer {
+    Advanced(Reply),
+    Refused(ReceiveError),
+}
+
+pub enum CancelAnswer {
+    Canceled,
+    Refused(ReceiveError),
+}
+
+// What a call gives: the answer, and the receiver as the call leaves it.
+pub struct TryNew {
+    pub answer: TryNewAnswer,
+    pub receiver: Receiver,
+}
+
+pub struct Receive {
+    pub answer: ReceiveAnswer,
+    pub receiver: Receiver,
+}
+
+pub struct Advance {
+    pub answer: AdvanceAnswer,
+    pub receiver: Receiver,
+}
+
+pub struct Cancel {
+    pub answer: CancelAnswer,
+    pub receiver: Receiver,
+}

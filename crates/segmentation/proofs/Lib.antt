@@ -1,0 +1,4 @@
+pub mod Capacity
+pub mod Parts
+pub mod Placing
+pub mod Turns

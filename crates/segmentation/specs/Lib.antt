@@ -1,0 +1,11 @@
+pub mod Numbers
+pub mod Plan
+pub mod Cutting
+pub mod Frozen
+pub mod Joined
+pub mod Heads
+pub mod Capacities
+pub mod Planned
+pub mod Accepted
+pub mod Refused
+pub mod Laws
