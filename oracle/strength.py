@@ -6,7 +6,7 @@ It works in a temporary folder and changes nothing here. All of it takes about a
 import os, shutil, subprocess, sys, tempfile
 HERE=os.path.dirname(os.path.abspath(__file__))
 ROOT=tempfile.mkdtemp(prefix='strength-')
-REC=os.path.join(HERE,'recorded')
+REC=os.path.join(HERE,'..','crates','replay','data')
 only=sys.argv[1] if len(sys.argv)>1 else None
 SRC=os.path.join(HERE,'..','docs','src'); B='crates/bts136/src/'
 T=B+'l3/tsar.rs'; P=B+'l3/tsar/segmentation.rs'; R=B+'link/tsar/receiver.rs'; S=B+'link/tsar/sender.rs'; Q=B+'l3/tsar/response.rs'

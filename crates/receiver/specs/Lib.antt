@@ -4,3 +4,4 @@ pub mod Answers
 pub mod Receive
 pub mod Advance
 pub mod Says
+pub mod Steps

@@ -1,24 +1,35 @@
-// The receiver of one transaction: link/tsar/receiver.rs of the source.
+// The receiver of one transaction: link/tsar/receiver.rs of the source. Its calls are in machine.
 use link::HigherLayerProtocol;
 use link::MobileIdentity;
-use response::AcknowledgmentMap;
-use response::OptionalServicesSupport;
 use response::Response;
 use response::Status;
-use response::SupportList;
-use tsar::AcknowledgmentWindow;
-use tsar::Compression;
-use tsar::CrcStatus;
 use tsar::Error;
-use tsar::MessageCrc;
 use tsar::MessageLength;
 use tsar::OptionalServices;
-use tsar::Segment;
 use tsar::SegmentKind;
-use tsar::Services;
-use tsar::Validated;
-use words::Found;
 use words::Words;
+ghost use mathlib.Core.Path.{_≡_};
+
+pub mod checks;
+pub mod faults;
+pub mod kinds;
+pub mod machine;
+pub mod replies;
+pub mod rules;
+pub mod same;
+pub mod states;
+
+const REASSEMBLY_MS: u64 = 300_000;
+
+// The last reading from which a deadline can be set: 2 to the 64 less 1 less REASSEMBLY_MS.
+const LATEST_READING: u64 = 18_446_744_073_709_251_615;
+
+const LAST_SEQUENCE: u8 = 255;
+
+// The store: 255 octets a slot, in sequence.
+const SLOT_OCTETS: usize = 255;
+
+const STORE_OCTETS: usize = 65_280;
 
 pub enum ReceiverState {
     AwaitingBegin,
@@ -147,4 +158,28 @@ pub struct Advance {
 pub struct Cancel {
     pub answer: CancelAnswer,
     pub receiver: Receiver,
+}
+
+impl Receiver {
+    pub fn state(self) -> ReceiverState
+        ensures { λ r. ⌜ r ≡ self .progress .state ⌝ }
+    {
+        let progress = self.progress;
+        let state = progress.state;
+        state
+    }
+
+    pub fn deadline_monotonic_ms(self) -> Deadline
+        ensures { λ r. ⌜ r ≡ self .progress .«deadline_monotonic_ms» ⌝ }
+    {
+        let progress = self.progress;
+        let deadline = progress.deadline_monotonic_ms;
+        deadline
+    }
+
+    pub fn stored_octets(self) -> usize
+        ensures { λ r. ⌜ r ≡ self .progress .«stored_octets» ⌝ }
+    {
+        self.progress.stored_octets
+    }
 }

@@ -1,0 +1,209 @@
+// Cases of the codec: a call, and what it has to answer.
+use octets::same;
+use recorded::Outcome;
+use recorded::answer::Place;
+use recorded::codec::FILL;
+use recorded::codec::put_decoded;
+use recorded::codec::put_encoded;
+use recorded::number::front;
+use tally::Tally;
+use tally::say;
+use tsar::AcknowledgmentWindow;
+use tsar::Compression;
+use tsar::CrcStatus;
+use tsar::DecodedSegment;
+use tsar::MessageCrc;
+use tsar::MessageLength;
+use tsar::OptionalServices;
+use tsar::Segment;
+use tsar::SegmentHead;
+use tsar::SegmentKind;
+use tsar::Services;
+use tsar::decode::DecodeAnswer;
+use tsar::decode::decode_segment;
+use tsar::encode::EncodeAnswer;
+
+// Room for the answer of any case, and the largest output.
+const MAX_ANSWER: usize = 64;
+
+const MAX_ROOM: usize = 300;
+
+// Counts a case, and prints its number where it is among the first that are not the same.
+pub fn counted(tally: Tally, outcome: Outcome) -> Tally {
+    let next = tally.count(outcome);
+    if next.shows(outcome) {
+        next.say_case(outcome);
+        say(b"\n");
+    }
+    next
+}
+
+// Segments.
+
+pub fn begin(transaction_id: u8, message_length: MessageLength, services: Services) -> Segment {
+    Segment {
+        transaction_id,
+        sequence_number: 0,
+        kind: SegmentKind::Begin {
+            message_length,
+            services,
+        },
+    }
+}
+
+pub fn later(transaction_id: u8, sequence_number: u8, message_length: MessageLength) -> Segment {
+    Segment {
+        transaction_id,
+        sequence_number,
+        kind: SegmentKind::Continue { message_length },
+    }
+}
+
+pub fn end(
+    transaction_id: u8,
+    sequence_number: u8,
+    message_length: MessageLength,
+    crc: MessageCrc,
+) -> Segment {
+    Segment {
+        transaction_id,
+        sequence_number,
+        kind: SegmentKind::End {
+            message_length,
+            crc,
+        },
+    }
+}
+
+pub fn services(
+    compression: Compression,
+    acknowledgment_window: AcknowledgmentWindow,
+    crc_status: CrcStatus,
+) -> Services {
+    Services::SpelledOut(OptionalServices {
+        compression,
+        acknowledgment_window,
+        crc_status,
+    })
+}
+
+pub fn every4() -> Services {
+    services(
+        Compression::None,
+        AcknowledgmentWindow::Every4,
+        CrcStatus::None,
+    )
+}
+
+// Reading.
+
+// Reading the octets gives the segment, with so many octets of data and so many unparsed.
+pub fn reads(
+    tally: Tally,
+    octets: &[u8],
+    version: u8,
+    segment: Segment,
+    segment_data_length: usize,
+    unparsed_octets: usize,
+) -> Tally {
+    let mut answer = [0u8; MAX_ANSWER];
+    let mut expected = [0u8; MAX_ANSWER];
+    let head = SegmentHead {
+        segment,
+        segment_data_length,
+    };
+    let wanted = DecodeAnswer::Decoded(DecodedSegment {
+        head,
+        unparsed_octets,
+    });
+    let place = put_decoded(&mut expected, wanted);
+    let given = put_decoded(&mut answer, decode_segment(octets, version));
+    counted(tally, given.compared(&answer, front(&expected, place.at)))
+}
+
+// Reading the octets gives refusal number/field.
+pub fn refuses(tally: Tally, octets: &[u8], version: u8, number: u8, field: u8) -> Tally {
+    let mut answer = [0u8; MAX_ANSWER];
+    let given = put_decoded(&mut answer, decode_segment(octets, version));
+    let expected = [1, number, field];
+    counted(tally, given.compared(&answer, &expected))
+}
+
+// Writing. Every octet of an output is FILL before a call, and all of them are compared after it.
+
+fn same_output(a: &[u8; MAX_ROOM], b: &[u8; MAX_ROOM]) -> bool {
+    same(a, b)
+}
+
+fn is_encoded(answer: EncodeAnswer, n: usize) -> bool {
+    match answer {
+        EncodeAnswer::Encoded(m) => m == n,
+        EncodeAnswer::Refused(_) => false,
+        EncodeAnswer::OutputTooShort => false,
+    }
+}
+
+fn is_refused(answer: EncodeAnswer, number: u8, field: u8) -> bool {
+    let mut octets = [0u8; MAX_ANSWER];
+    let place = put_encoded(&mut octets, answer);
+    match place.compared(&octets, &[1, number, field]) {
+        Outcome::Same => true,
+        Outcome::Differs => false,
+        Outcome::Malformed => false,
+    }
+}
+
+fn outcome_of(answered: bool, left: bool) -> Outcome {
+    if !answered {
+        return Outcome::Differs;
+    }
+    if left {
+        Outcome::Same
+    } else {
+        Outcome::Differs
+    }
+}
+
+// Writing the segment with its data gives the three octets of the header, the data and the parameters, and no more.
+pub fn writes(
+    tally: Tally,
+    s: Segment,
+    version: u8,
+    octets: &[u8],
+    room: usize,
+    header: &[u8; 3],
+    parameters: &[u8],
+) -> Tally {
+    let mut output = [FILL; MAX_ROOM];
+    if output.len() < room {
+        return counted(tally, Outcome::Malformed);
+    }
+    let mut expected = [FILL; MAX_ROOM];
+    let place = Place::start()
+        .octets(&mut expected, header)
+        .octets(&mut expected, octets)
+        .octets(&mut expected, parameters);
+    let answer = s.encode(octets, version, &mut output[0..room]);
+    let answered = is_encoded(answer, place.at);
+    counted(tally, outcome_of(answered, same_output(&output, &expected)))
+}
+
+// Writing the segment gives refusal number/field and changes no octet.
+pub fn not_written(
+    tally: Tally,
+    s: Segment,
+    version: u8,
+    octets: &[u8],
+    room: usize,
+    number: u8,
+    field: u8,
+) -> Tally {
+    let mut output = [FILL; MAX_ROOM];
+    if output.len() < room {
+        return counted(tally, Outcome::Malformed);
+    }
+    let expected = [FILL; MAX_ROOM];
+    let answer = s.encode(octets, version, &mut output[0..room]);
+    let answered = is_refused(answer, number, field);
+    counted(tally, outcome_of(answered, same_output(&output, &expected)))
+}

@@ -1,0 +1,101 @@
+-- What the calls answer and leave, from what their checks say: refused, or gone on with. Assumes nothing.
+use mathlib.Core.Path.{_≡_, sym, ap, ap₂, _∙_}
+use mathlib.Core.Bool.{Bool}
+use mathlib.Core.List.{List, []}
+use mathlib.Core.Option.{Option, none, some}
+use Prim.Native.Nat.{ℕ, _≤_}
+use native.Mathlib.Omega.{arith}
+use borrow.Author.Tests.{ltb-false}
+use lib.ListN.{length}
+use Rattle.tsar.specs.Rows.{Refusal, refusal, anyOf, refusal-none}
+use Rattle.tsar.specs.Kinds.{prohibited}
+use Rattle.receiver.specs.declared.ReceiverState.the-variants as state
+use Rattle.receiver.specs.declared.Terms.{Terms}
+use Rattle.receiver.specs.declared.Receiver.{Receiver}
+use Rattle.receiver.specs.declared.checks.Brought.{Brought}
+use Rattle.receiver.specs.Record.{kindAt, late, due, impossible, wiped, closed}
+use Rattle.receiver.specs.Answers.{Step, refuses, answered}
+use Rattle.receiver.specs.Receive.{Arrival, receiveRows, receiveAfter, receiveOf}
+use Rattle.receiver.specs.Advance.{Made, tryNewRows, madeAfter, tryNewOf, noReceiver, empty, fires, advanceAfter, advanceOf, cancelAfter, cancelOf}
+use Rattle.receiver.specs.Steps.{faultsOf, clockRowsOf, cancelRowsOf, arrivalRows, arrived, Fits, takenOf}
+use Rattle.receiver.proofs.Possible.{count-small}
+use Rattle.receiver.proofs.Settling.{late-arrived}
+
+-- ---- try_new
+
+pub try-refused : (t : Terms) (reading : ℕ) (n : Refusal) (x : Receiver) → x ≡ noReceiver → some n ≡ refusal (tryNewRows t) → _≡_ {A = Made} (record { refused = some n; receiver = x }) (tryNewOf t reading)
+unfolding tryNewOf
+try-refused t reading n x h e =
+    ap {B = Made} (λ (y : Receiver). record { refused = some n; receiver = y }) h ∙ ap (λ (o : Option Refusal). madeAfter o t reading) e
+
+pub try-made : (t : Terms) (reading : ℕ) (x : Receiver) → x ≡ empty t state.AwaitingBegin reading → none ≡ refusal (tryNewRows t) → _≡_ {A = Made} (record { refused = none; receiver = x }) (tryNewOf t reading)
+unfolding tryNewOf
+try-made t reading x h e =
+    ap {B = Made} (λ (y : Receiver). record { refused = none; receiver = y }) h ∙ ap (λ (o : Option Refusal). madeAfter o t reading) e
+
+-- ---- 62
+
+pub impossible-is : (r : Receiver) (b : Bool) → b ≡ anyOf (faultsOf (r .terms .«maximum_message_octets») (r .progress) (r .held) (r .lengths) (kindAt r 0)) → b ≡ impossible r
+unfolding impossible
+impossible-is r b e = e
+
+-- ---- advance and cancel
+
+module _ (r : Receiver) (store : List ℕ) (reading : ℕ) (bad : Bool) (b : bad ≡ impossible r) where
+  abbrev clock : Option Refusal → Type 0
+  clock o = o ≡ refusal (clockRowsOf (length store) bad (r .progress .«last_monotonic_ms») reading)
+
+  pub advance-refused : (n : Refusal) → clock (some n) → refuses n r store [] ≡ advanceOf r store reading
+  unfolding advanceOf
+  advance-refused n e =
+      ap (λ (o : Option Refusal). advanceAfter o r store reading) (e ∙ ap (λ (x : Bool). refusal (clockRowsOf (length store) x (r .progress .«last_monotonic_ms») reading)) b)
+
+  pub advance-passed : clock none → fires (due (r .progress .«deadline_monotonic_ms») reading) (prohibited (r .progress .services .«acknowledgment_window»)) r store reading ≡ advanceOf r store reading
+  unfolding advanceOf
+  advance-passed e =
+      ap (λ (o : Option Refusal). advanceAfter o r store reading) (e ∙ ap (λ (x : Bool). refusal (clockRowsOf (length store) x (r .progress .«last_monotonic_ms») reading)) b)
+
+  abbrev canceling : Option Refusal → Type 0
+  canceling o = o ≡ refusal (cancelRowsOf (length store) bad (r .progress) reading)
+
+  pub cancel-refused : (n : Refusal) → canceling (some n) → refuses n r store [] ≡ cancelOf r store reading
+  unfolding cancelOf
+  cancel-refused n e =
+      ap (λ (o : Option Refusal). cancelAfter o r store reading) (e ∙ ap (λ (x : Bool). refusal (cancelRowsOf (length store) x (r .progress) reading)) b)
+
+  pub cancel-passed : (x : Receiver) (store′ : List ℕ) → x ≡ closed r state.Canceled reading → store′ ≡ wiped store → canceling none → _≡_ {A = Step} (record { answer = answered none none; receiver = x; store = store′; output = [] }) (cancelOf r store reading)
+  unfolding cancelOf
+  cancel-passed x store′ ex es e =
+      ap₂ {C = Step} (λ (y : Receiver) (l : List ℕ). record { answer = answered none none; receiver = y; store = l; output = [] }) ex es
+      ∙ ap (λ (o : Option Refusal). cancelAfter o r store reading) (e ∙ ap (λ (x : Bool). refusal (cancelRowsOf (length store) x (r .progress) reading)) b)
+
+-- ---- receive
+
+-- what the checks read of an arrival
+abbrev pub broughtOf : Arrival → Brought
+broughtOf a =
+    record { peer = a .peer; protocol = a .protocol; segment = a .segment; octets = length (a .octets); unparsed = a .unparsed; reading = a .reading }
+
+module _ (r : Receiver) (a : Arrival) (store out : List ℕ) (bad : Bool) (b : bad ≡ impossible r) where
+  abbrev arriving : Option Refusal → Type 0
+  arriving o = o ≡ refusal (arrivalRows 300000 (length store) (length out) bad (r .terms) (r .progress) (broughtOf a))
+
+  rows-are : (o : Option Refusal) → arriving o → o ≡ refusal (receiveRows 300000 r a store out)
+  rows-are o e = e ∙ ap (λ (x : Bool). refusal (arrivalRows 300000 (length store) (length out) x (r .terms) (r .progress) (broughtOf a))) b
+
+  pub receive-refused : (n : Refusal) → arriving (some n) → refuses n r store out ≡ receiveOf 300000 r a store out
+  unfolding receiveOf
+  receive-refused n e = ap (λ (o : Option Refusal). receiveAfter 300000 o r a store out) (rows-are (some n) e)
+
+  pub receive-taken : arriving none → takenOf r (arrived (a .segment) (a .octets) (a .reading)) store out ≡ receiveOf 300000 r a store out
+  unfolding receiveOf takenOf
+  receive-taken e =
+      late-arrived 300000 (late (r .progress .«deadline_monotonic_ms») (a .reading)) (prohibited (r .progress .services .«acknowledgment_window»)) r a store out ∙ ap (λ (o : Option Refusal). receiveAfter 300000 o r a store out) (rows-are none e)
+
+  -- a segment that passes is short and early enough
+  pub fits : arriving none → Fits r (length (a .octets)) (a .reading)
+  fits e =
+      let p = refusal-none (receiveRows 300000 r a store out) (sym (rows-are none e)) in
+      let short : length (a .octets) ≤ 255 = ltb-false _ _ (p 9) in
+      let early : a .reading ≤ 18446744073709251615 = ltb-false _ _ (p 16) in
+      record { few = omega (arith, count-small r (p 2)); early = omega arith }

@@ -1,0 +1,9 @@
+-- Laws that the proofs of several functions use: tests (AnyOf, InOrder), 62 (HeldSums, Possible), what receive does (Settling, Holding, JoinedData), and the calls (Calling).
+pub mod AnyOf
+pub mod InOrder
+pub mod HeldSums
+pub mod Possible
+pub mod Settling
+pub mod JoinedData
+pub mod Calling
+pub mod Holding

@@ -1,0 +1,63 @@
+-- `Receiver::cancel` meets its contract: refused with nothing changed, or closed with the store wiped. Assumes nothing.
+use Rattle.receiver.proofs.Calling.{cancel-passed, cancel-refused, impossible-is}
+use Rattle.receiver.specs.Steps.{checkSays, closedAs}
+use Rattle.receiver.specs.declared.replies.Standing.{Standing}
+use borrow.Author.Needs.{needs}
+use denote.Ref.{now}
+use mathlib.Core.Path.{_∙_, ap, sym}
+use Rattle.receiver.specs.declared.ReceiverState.the-variants as state
+use Rattle.receiver.proofs.Receiver.cancel.Statement.{statement}
+use Rattle.receiver.proofs.Receiver.cancel.Tie as tie
+
+element-copy-out-slot : tie.Need-element-copy-out-slot
+element-copy-out-slot c = search needs
+
+impossible-requires : tie.Need-impossible-requires
+impossible-requires c κs = search needs
+
+cancel-check-requires : tie.Need-cancel-check-requires
+cancel-check-requires c κs = search needs
+
+enum-known-e : tie.Need-enum-known-e
+enum-known-e c = search needs
+
+enum-told : tie.Need-enum-told
+enum-told c = search needs
+
+wipe-requires : tie.Need-wipe-requires
+wipe-requires c κs = search needs
+
+standing-of-requires : tie.Need-standing-of-requires
+standing-of-requires c κs = search needs
+
+closed-requires : tie.Need-closed-requires
+closed-requires c κs = search needs
+
+returns : tie.Need-returns
+returns c =
+    let x = c .before .before .before .before .before .before .before .before .before .before .before .before .args in
+    cancel-refused (x .t1) (now (x .store)) (x .monotonic-ms) (c .before .before .before .before .impossible .result) (impossible-is (x .t1) (c .before .before .before .before .impossible .result) (c .before .before .before .before .impossible .ensures)) _ (ap checkSays (sym (c .before .e .given .1)) ∙ c .before .before .before .cancel-check .ensures)
+
+same-length : tie.Need-same-length
+same-length c = search needs
+
+returns-2 : tie.Need-returns-2
+returns-2 c =
+    let x = c .before .before .before .before .before .before .before .before .before .before .before .before .before .before .before .before .before .args in
+    cancel-passed (x .t1) (now (x .store)) (x .monotonic-ms) (c .before .before .before .before .before .before .before .before .before .impossible .result) (impossible-is (x .t1) (c .before .before .before .before .before .before .before .before .before .impossible .result) (c .before .before .before .before .before .before .before .before .before .impossible .ensures)) (c .closed .result) _ (c .closed .ensures ∙ ap (λ (y : Standing). closedAs (x .t1 .terms) y state.Canceled (x .monotonic-ms)) (c .before .standing-of .ensures)) (c .before .before .before .before .wipe .ensures) (ap checkSays (sym (c .before .before .before .before .before .before .enum-told .given .1)) ∙ c .before .before .before .before .before .before .before .before .cancel-check .ensures)
+
+pub cancel-spec : {M : Type 1} → statement M
+cancel-spec =
+    tie.close
+    (tie.spec
+    element-copy-out-slot
+    impossible-requires
+    cancel-check-requires
+    enum-known-e
+    enum-told
+    wipe-requires
+    standing-of-requires
+    closed-requires
+    returns
+    same-length
+    returns-2)

@@ -1,0 +1,149 @@
+-- What the slots decide, from the tests of the code; and that each step of receive leaves what its outcome says. Assumes nothing.
+use mathlib.Core.Path.{_≡_, refl, sym, ap, _∙_}
+use mathlib.Core.Bool.{Bool, true, false, not, _&&_}
+use mathlib.Core.List.{List, [], _∷_}
+use Prim.Native.Nat.{ℕ, _+_}
+use lib.Dec.{eqb}
+use lib.ListN.{length}
+use Rattle.octets.specs.Octets.{sameOctets}
+use Rattle.tsar.specs.Rows.{firstOf}
+use Rattle.tsar.specs.Kinds.{prohibited}
+use Rattle.tsar.specs.declared.Segment.{Segment}
+use Rattle.response.specs.declared.Status.{Status}
+use Rattle.response.specs.declared.Status.the-variants as status
+use Rattle.receiver.specs.declared.Progress.{Progress}
+use Rattle.receiver.specs.declared.Receiver.{Receiver}
+use Rattle.receiver.specs.declared.Receive.{Receive}
+use Rattle.receiver.specs.declared.replies.Standing.{Standing}
+use Rattle.receiver.specs.declared.rules.Stage.{Stage}
+use Rattle.receiver.specs.declared.rules.Stage.the-variants as stage
+use Rattle.receiver.specs.declared.rules.Decision.{Decision}
+use Rattle.receiver.specs.declared.rules.Place.{Place}
+use Rattle.receiver.specs.declared.rules.Amounts.{Amounts}
+use Rattle.receiver.specs.Record.{complete, isHeld, kindAt, lengthAt, part, clearPast, fullWith, late}
+use Rattle.receiver.specs.Answers.{Step}
+use Rattle.receiver.specs.Receive.{Arrival, Outcome, fails, repeats, closes, keeps, finishes, before, begun, noted, keeping, sequence, kind, endOf, sameKind, slotRules, settle, lateOr}
+use Rattle.receiver.specs.Says.{received}
+use Rattle.receiver.specs.Steps.{kindRules, rules, decided, stageSays, stagedAt, arrived, failed, tooLate, closesOf, settledOf, takenOf}
+
+-- ---- the decision
+
+-- what the code finds out about a segment's place
+abbrev pub placeOf : Receiver → Arrival → List ℕ → Place
+placeOf r a store =
+    record {
+      held = isHeld r (sequence a);
+      octets = lengthAt r (sequence a);
+      same = isHeld r (sequence a) && (sameKind (kindAt r (sequence a)) (kind a) && sameOctets (part store (sequence a) (length (a .octets))) (a .octets));
+      clear = clearPast (r .held) (sequence a);
+      full = fullWith (r .held) (sequence a) (endOf (r .progress .«end_sequence») (kind a) (sequence a));
+    }
+
+abbrev pub amountsOf : Receiver → Arrival → Amounts
+amountsOf r a =
+    record { octets = length (a .octets); total = r .progress .«stored_octets» + length (a .octets); maximum = r .terms .«maximum_message_octets» }
+
+-- the rules with the second test given
+rulesWith : Progress → Segment → Place → Amounts → Bool → List (Bool × Outcome)
+rulesWith p g x m b =
+    (x .held && not (eqb (x .octets) (m .octets)), fails before status.DuplicateSizeMismatch)
+    ∷ (b, fails before status.Aborted)
+    ∷ (x .held, repeats)
+    ∷ (complete (p .state), closes)
+    ∷ kindRules p g (x .clear) (x .full) m
+
+-- nothing is compared where nothing is held
+compared : (h x : Bool) → (h && not (h && x)) ≡ (h && not x)
+compared true x = refl
+compared false x = refl
+
+pub outcome-is : (r : Receiver) (a : Arrival) (store : List ℕ) (x : Place) (d : Decision)
+    → x ≡ placeOf r a store → decided d ≡ firstOf (rules (r .progress) (a .segment) x (amountsOf r a)) keeps → decided d ≡ firstOf (slotRules r a store) keeps
+unfolding rulesWith
+outcome-is r a store x d e h =
+    h ∙ ap (λ (y : Place). firstOf (rules (r .progress) (a .segment) y (amountsOf r a)) keeps) e
+    ∙ ap (λ (b : Bool). firstOf (rulesWith (r .progress) (a .segment) (placeOf r a store) (amountsOf r a) b) keeps)
+    (compared (isHeld r (sequence a)) (sameKind (kindAt r (sequence a)) (kind a) && sameOctets (part store (sequence a) (length (a .octets))) (a .octets)))
+
+-- ---- an arrival's peer, protocol and unparsed octets no longer count
+
+pub settle-arrived : (i : ℕ) (o : Outcome) (r : Receiver) (a : Arrival) (store out : List ℕ) → settle i o r (arrived (a .segment) (a .octets) (a .reading)) store out ≡ settle i o r a store out
+settle-arrived i (fails before s) r a store out = refl
+settle-arrived i (fails begun s) r a store out = refl
+settle-arrived i (fails noted s) r a store out = refl
+settle-arrived i (fails keeping s) r a store out = refl
+settle-arrived i repeats r a store out = refl
+settle-arrived i closes r a store out = refl
+settle-arrived i keeps r a store out = refl
+settle-arrived i finishes r a store out = refl
+
+pub late-arrived : (i : ℕ) (t p : Bool) (r : Receiver) (a : Arrival) (store out : List ℕ) → lateOr i t p r (arrived (a .segment) (a .octets) (a .reading)) store out ≡ lateOr i t p r a store out
+late-arrived i true true r a store out = refl
+late-arrived i true false r a store out = refl
+late-arrived i false p r a store out = settle-arrived i (firstOf (slotRules r a store) keeps) r a store out
+
+-- ---- each step, with the store and the output that it does not touch
+
+-- with an output, and with a store too
+abbrev with-output : List ℕ → Step → Step
+with-output out s = record { answer = s .answer; receiver = s .receiver; store = s .store; output = out }
+
+abbrev with-both : List ℕ → List ℕ → Step → Step
+with-both store out s = record { answer = s .answer; receiver = s .receiver; store = store; output = out }
+
+-- a failure, at each stage
+fails-as : (st : Stage) (s : Status) (r : Receiver) (g : Segment) (octets : List ℕ) (reading : ℕ) (store out : List ℕ)
+    → with-output out (failed (r .terms) (stagedAt st (r .progress) (r .held) g) s reading store) ≡ settle 300000 (fails (stageSays st) s) r (arrived g octets reading) store out
+fails-as stage.Before s r g octets reading store out = refl
+fails-as stage.Begun s r g octets reading store out = refl
+fails-as stage.Noted s r g octets reading store out = refl
+fails-as stage.Keeping s r g octets reading store out = refl
+
+module _ (r : Receiver) (g : Segment) (octets : List ℕ) (reading : ℕ) (store out : List ℕ) (x : Receive) where
+  abbrev goal : List ℕ → List ℕ → Type 0
+  goal store′ out′ = received x store′ out′ ≡ settledOf r (arrived g octets reading) store out
+
+  abbrev outcome : Outcome → Type 0
+  outcome o = o ≡ firstOf (slotRules r (arrived g octets reading) store) keeps
+
+  -- what settles an outcome settles the rules
+  settled : (o : Outcome) → outcome o → settle 300000 o r (arrived g octets reading) store out ≡ settledOf r (arrived g octets reading) store out
+  unfolding settledOf
+  settled o e = ap (λ (p : Outcome). settle 300000 p r (arrived g octets reading) store out) e
+
+  pub settled-fails : (st : Stage) (s : Status) (y : Standing) (store′ : List ℕ) → outcome (fails (stageSays st) s) → y ≡ stagedAt st (r .progress) (r .held) g
+      → received x store′ [] ≡ failed (r .terms) y s reading store → goal store′ out
+  settled-fails st s y store′ o e h =
+      ap (with-output out) h ∙ ap (λ (z : Standing). with-output out (failed (r .terms) z s reading store)) e ∙ fails-as st s r g octets reading store out
+      ∙ settled (fails (stageSays st) s) o
+
+  pub settled-repeats : outcome repeats → received x [] [] ≡ settle 300000 repeats r (arrived g [] reading) [] [] → goal store out
+  settled-repeats o h = ap (with-both store out) h ∙ settled repeats o
+
+  pub settled-closes : outcome closes → received x [] [] ≡ closesOf r reading → goal store out
+  settled-closes o h = ap (with-both store out) h ∙ settled closes o
+
+  pub settled-keeps : (store′ : List ℕ) → outcome keeps → received x store′ [] ≡ settle 300000 keeps r (arrived g octets reading) store [] → goal store′ out
+  settled-keeps store′ o h = ap (with-output out) h ∙ settled keeps o
+
+  pub settled-finishes : (store′ out′ : List ℕ) → outcome finishes → received x store′ out′ ≡ settle 300000 finishes r (arrived g octets reading) store out → goal store′ out′
+  settled-finishes store′ out′ o h = h ∙ settled finishes o
+
+-- ---- late or not
+
+late-as : (p : Bool) (r : Receiver) (g : Segment) (octets : List ℕ) (reading : ℕ) (store out : List ℕ) → with-output out (tooLate p r reading store) ≡ lateOr 300000 true p r (arrived g octets reading) store out
+late-as true r g octets reading store out = refl
+late-as false r g octets reading store out = refl
+
+module _ (r : Receiver) (g : Segment) (octets : List ℕ) (reading : ℕ) (store out : List ℕ) where
+  pub taken-late : (x : Receive) (store′ : List ℕ) → late (r .progress .«deadline_monotonic_ms») reading ≡ true
+      → received x store′ [] ≡ tooLate (prohibited (r .progress .services .«acknowledgment_window»)) r reading store → received x store′ out ≡ takenOf r (arrived g octets reading) store out
+  unfolding takenOf
+  taken-late x store′ e h =
+      let p = prohibited (r .progress .services .«acknowledgment_window») in
+      ap (with-output out) h ∙ late-as p r g octets reading store out ∙ ap (λ (t : Bool). lateOr 300000 t p r (arrived g octets reading) store out) (sym e)
+
+  pub taken-settled : late (r .progress .«deadline_monotonic_ms») reading ≡ false → settledOf r (arrived g octets reading) store out ≡ takenOf r (arrived g octets reading) store out
+  unfolding settledOf takenOf
+  taken-settled e =
+      ap (λ (t : Bool). lateOr 300000 t (prohibited (r .progress .services .«acknowledgment_window»)) r (arrived g octets reading) store out) (sym e)

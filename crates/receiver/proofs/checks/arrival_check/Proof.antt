@@ -1,0 +1,45 @@
+-- `arrival_check` meets its contract: the rows up to 32 decide, or those behind them. Assumes nothing.
+use Rattle.receiver.proofs.InOrder.{behind-decides, front-decides}
+use Rattle.receiver.specs.Steps.{addressRows, checkSays, segmentRows}
+use Rattle.tsar.specs.Rows.{Refusal}
+use borrow.Author.Needs.{needs}
+use mathlib.Core.Bool.{Bool}
+use mathlib.Core.List.{List}
+use mathlib.Core.Path.{_∙_, ap, sym}
+use Rattle.receiver.proofs.checks.arrival_check.Statement.{statement}
+use Rattle.receiver.proofs.checks.arrival_check.Tie as tie
+
+abbrev address : (c : tie.Start) → List (Bool × Refusal)
+address c = let x = c .args in addressRows (x .store) (x .output) (x .bad) (x .progress .«last_monotonic_ms») (x .terms) (x .brought)
+
+abbrev behind : (c : tie.Start) → List (Bool × Refusal)
+behind c = let x = c .args in segmentRows 300000 (x .terms .version) (x .progress .state) (x .brought)
+
+address-check-requires : tie.Need-address-check-requires
+address-check-requires c κs = search needs
+
+enum-known-e : tie.Need-enum-known-e
+enum-known-e c = search needs
+
+enum-told : tie.Need-enum-told
+enum-told c = search needs
+
+segment-check-requires : tie.Need-segment-check-requires
+segment-check-requires c κs = search needs
+
+returns : tie.Need-returns
+returns c = front-decides (address (c .before .before .before .before)) (behind (c .before .before .before .before)) _ (ap checkSays (sym (c .before .e .given .1)) ∙ c .before .before .before .address-check .ensures)
+
+returns-2 : tie.Need-returns-2
+returns-2 c = behind-decides (address (c .before .before .before .before)) (behind (c .before .before .before .before)) _ (ap checkSays (sym (c .before .enum-told .given .1)) ∙ c .before .before .before .address-check .ensures) (c .segment-check .ensures)
+
+pub arrival-check-spec : {M : Type 1} → statement M
+arrival-check-spec =
+    tie.close
+    (tie.spec
+    address-check-requires
+    enum-known-e
+    enum-told
+    segment-check-requires
+    returns
+    returns-2)

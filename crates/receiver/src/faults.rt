@@ -1,0 +1,157 @@
+// 62: the impossible states.
+use crate::EndSequence;
+use crate::Progress;
+use crate::SLOT_OCTETS;
+use crate::kinds::is_begin;
+use crate::states::both;
+use crate::states::complete;
+use crate::states::either;
+use crate::states::receiving;
+use crate::states::running;
+use crate::states::wide;
+use tsar::SegmentKind;
+use words::Words;
+ghost use mathlib.Core.Path.{_≡_};
+ghost use mathlib.Core.Bool.{not, _&&_};
+ghost use Prim.Native.Nat.{_+_, _*_, _<_};
+ghost use lib.ListN.{getD};
+ghost use Rattle.words.specs.Marks.{wordsList, marked, allBelow};
+ghost use Rattle.tsar.specs.Rows.{anyOf};
+ghost use Rattle.receiver.specs.Record.{pastEnd, gap as gapOf};
+ghost use Rattle.receiver.specs.Steps.{Upto, lengthFaults, stateFaults, faultsOf};
+
+const WORD_MARKS: usize = 64;
+
+// What a scan of the held lengths has found: their sum, and whether one passes 255.
+pub struct HeldLengths {
+    pub sum: usize,
+    pub over: bool,
+}
+
+// Word k of the four.
+fn word(held: Words, k: usize) -> u64
+    ensures { λ r. ⌜ r ≡ getD (wordsList held) k 0 ⌝ }
+{
+    match k {
+        0 => held.a,
+        1 => held.b,
+        2 => held.c,
+        3 => held.d,
+        _ => 0,
+    }
+}
+
+// With the held lengths that word k marks.
+fn scan_word(held: Words, k: usize, lengths: &[u16; 256], found: HeldLengths) -> HeldLengths
+    requires { ⌜ (k < 4) × Upto held (now lengths) (64 * k) found ⌝ }
+    ensures { λ r. ⌜ Upto held (now (lengths .entry)) (64 * k + 64) r ⌝ }
+{
+    let marks = word(held, k);
+    if marks == 0 {
+        return found;
+    }
+    let from = WORD_MARKS * k;
+    let mut sum = found.sum;
+    let mut over = found.over;
+    let mut j: usize = 0;
+    while j < WORD_MARKS {
+        if (marks >> j) % 2 == 1 {
+            let n = wide(lengths[from + j]);
+            sum += n;
+            over = either(over, SLOT_OCTETS < n);
+        }
+        j += 1;
+    }
+    HeldLengths { sum, over }
+}
+
+// The one pass over the slots: words that hold nothing are skipped.
+fn scan(held: Words, lengths: &[u16; 256]) -> HeldLengths
+    ensures { λ r. ⌜ Upto held (now (lengths .entry)) 256 r ⌝ }
+{
+    let none = HeldLengths {
+        sum: 0,
+        over: false,
+    };
+    let first = scan_word(held, 0, lengths, none);
+    let second = scan_word(held, 1, lengths, first);
+    let third = scan_word(held, 2, lengths, second);
+    scan_word(held, 3, lengths, third)
+}
+
+// A held length passes 255; the count isn't their sum or passes the maximum.
+fn lengths_impossible(held: Words, lengths: &[u16; 256], stored: usize, maximum: usize) -> bool
+    ensures { λ r. ⌜ r ≡ anyOf (lengthFaults held (now (lengths .entry)) stored maximum) ⌝ }
+{
+    let found = scan(held, lengths);
+    if found.over {
+        return true;
+    }
+    if stored != found.sum {
+        return true;
+    }
+    maximum < stored
+}
+
+// No slot past the end is held.
+fn clear_past_end(held: Words, end: EndSequence) -> bool
+    ensures { λ r. ⌜ r ≡ allBelow 256 (λ t. not (pastEnd end t && marked held t)) ⌝ }
+{
+    match end {
+        EndSequence::Unknown => true,
+        EndSequence::At(e) => held.none_past(e),
+    }
+}
+
+// No end, or a gap before it.
+fn gap(held: Words, end: EndSequence) -> bool
+    ensures { λ r. ⌜ r ≡ gapOf held end ⌝ }
+{
+    match end {
+        EndSequence::Unknown => true,
+        EndSequence::At(e) => {
+            if e == 0 {
+                return false;
+            }
+            !held.full_to(e - 1)
+        }
+    }
+}
+
+// The state, the marks, the end and the deadline contradict one another. `first` is the kind of slot 0.
+fn state_impossible(progress: Progress, held: Words, first: SegmentKind) -> bool
+    ensures { λ r. ⌜ r ≡ anyOf (stateFaults progress held first) ⌝ }
+{
+    let state = progress.state;
+    let end = progress.end_sequence;
+    let deadline = progress.deadline_monotonic_ms;
+    let taken = either(receiving(state), complete(state));
+    if both(!taken, !held.is_none()) {
+        return true;
+    }
+    if both(taken, !both(held.has(0), is_begin(first))) {
+        return true;
+    }
+    if !clear_past_end(held, end) {
+        return true;
+    }
+    if both(!receiving(state), running(deadline)) {
+        return true;
+    }
+    both(complete(state), gap(held, end))
+}
+
+pub fn impossible(
+    maximum: usize,
+    progress: Progress,
+    held: Words,
+    lengths: &[u16; 256],
+    first: SegmentKind,
+) -> bool
+    ensures { λ r. ⌜ r ≡ anyOf (faultsOf maximum progress held (now (lengths .entry)) first) ⌝ }
+{
+    if lengths_impossible(held, lengths, progress.stored_octets, maximum) {
+        return true;
+    }
+    state_impossible(progress, held, first)
+}

@@ -1,0 +1,7 @@
+// Replays the recorded lists of data/, which hold what the original Rust answered (oracle/RECORDED.md), and prints a line for each list.
+mod list;
+mod run;
+
+fn main() {
+    run::replay(b"codec", b"codec.rec");
+}
