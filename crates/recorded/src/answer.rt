@@ -10,6 +10,8 @@ ghost use Rattle.recorded.specs.Writing.{spell16, pastBy, comparedOf};
 
 const MAX_U16: usize = 65535;
 
+const MAX_U32: usize = 4294967295;
+
 pub struct Place {
     pub at: usize,
 }
@@ -80,6 +82,14 @@ impl Place {
             return Place::nowhere();
         }
         self.be16(out, n as u16)
+    }
+
+    // A size in 32 bits, likewise.
+    pub fn size32(self, out: &mut [u8], n: usize) -> Place {
+        if MAX_U32 < n {
+            return Place::nowhere();
+        }
+        self.be32(out, n as u32)
     }
 
     // The answer that ends at this place of out, against the recorded one.

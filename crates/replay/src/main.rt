@@ -4,4 +4,5 @@ mod run;
 
 fn main() {
     run::replay(b"codec", b"codec.rec");
+    run::replay(b"plan", b"plan.rec");
 }

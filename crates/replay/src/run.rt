@@ -5,7 +5,12 @@ use crate::list::Next;
 use crate::list::next_case;
 use recorded::Outcome;
 use recorded::codec::codec_case;
+use recorded::frozen::FROZEN;
+use recorded::frozen::frozen_case;
 use recorded::number::front;
+use recorded::plan::MAX_MESSAGE;
+use recorded::plan::PLAN;
+use recorded::plan::plan_case;
 use tally::Tally;
 use tally::say;
 use tally::say_octet;
@@ -28,6 +33,23 @@ fn counted(tally: Tally, op: u8, outcome: Outcome) -> Tally {
     next
 }
 
+// The outcome of a case of any list.
+fn outcome_of(op: u8, input: &[u8], expected: &[u8]) -> Outcome {
+    let mut answer = [0u8; MAX_ANSWER];
+    if op < PLAN {
+        return codec_case(op, input, expected, &mut answer);
+    }
+    let mut message = [0u8; MAX_MESSAGE];
+    if op == PLAN {
+        return plan_case(input, expected, &mut message, &mut answer);
+    }
+    let mut joined = [0u8; MAX_MESSAGE];
+    if op == FROZEN {
+        return frozen_case(input, expected, &mut joined, &mut message, &mut answer);
+    }
+    Outcome::Malformed
+}
+
 impl Run {
     fn ended(self) -> Run {
         Run {
@@ -37,8 +59,7 @@ impl Run {
     }
 
     fn replayed(self, op: u8, input: &[u8], expected: &[u8]) -> Run {
-        let mut answer = [0u8; MAX_ANSWER];
-        let outcome = codec_case(op, input, expected, &mut answer);
+        let outcome = outcome_of(op, input, expected);
         let tally = self.tally;
         Run {
             tally: counted(tally, op, outcome),
