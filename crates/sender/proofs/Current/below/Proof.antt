@@ -1,0 +1,22 @@
+-- `sender::Current::below` meets its contract: in each arm the value is the variant, and the definition computes. Assumes nothing.
+use borrow.Author.Needs.{needs}
+use Rattle.sender.proofs.Current.below.Statement.{statement}
+use Rattle.sender.proofs.Current.below.Tie as tie
+
+enum-told : tie.Need-enum-told
+enum-told c = search needs
+
+enum-known-self : tie.Need-enum-known-self
+enum-known-self c = search needs
+
+wide-requires : tie.Need-wide-requires
+wide-requires c κs = search needs
+
+returns : tie.Need-returns
+returns c = search needs
+
+returns-2 : tie.Need-returns-2
+returns-2 c = cc
+
+pub below-spec : {M : Type 1} → statement M
+below-spec = tie.close (tie.spec enum-told enum-known-self wide-requires returns returns-2)

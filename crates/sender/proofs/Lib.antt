@@ -1,0 +1,7 @@
+-- Laws that the proofs of several functions cite.
+pub mod Bools
+pub mod Marking
+pub mod Stepping
+pub mod Impossible
+pub mod Turning
+pub mod Given
