@@ -1,4 +1,6 @@
 // Cases of the codec: a call, and what it has to answer.
+use crate::counting::counted;
+use crate::counting::outcome_if_both;
 use octets::same;
 use recorded::Outcome;
 use recorded::answer::Place;
@@ -7,18 +9,9 @@ use recorded::codec::put_decoded;
 use recorded::codec::put_encoded;
 use recorded::number::front;
 use tally::Tally;
-use tally::say;
-use tsar::AcknowledgmentWindow;
-use tsar::Compression;
-use tsar::CrcStatus;
 use tsar::DecodedSegment;
-use tsar::MessageCrc;
-use tsar::MessageLength;
-use tsar::OptionalServices;
 use tsar::Segment;
 use tsar::SegmentHead;
-use tsar::SegmentKind;
-use tsar::Services;
 use tsar::decode::DecodeAnswer;
 use tsar::decode::decode_segment;
 use tsar::encode::EncodeAnswer;
@@ -27,73 +20,6 @@ use tsar::encode::EncodeAnswer;
 const MAX_ANSWER: usize = 64;
 
 const MAX_ROOM: usize = 300;
-
-// Counts a case, and prints its number where it is among the first that are not the same.
-pub fn counted(tally: Tally, outcome: Outcome) -> Tally {
-    let next = tally.count(outcome);
-    if next.shows(outcome) {
-        next.say_case(outcome);
-        say(b"\n");
-    }
-    next
-}
-
-// Segments.
-
-pub fn begin(transaction_id: u8, message_length: MessageLength, services: Services) -> Segment {
-    Segment {
-        transaction_id,
-        sequence_number: 0,
-        kind: SegmentKind::Begin {
-            message_length,
-            services,
-        },
-    }
-}
-
-pub fn later(transaction_id: u8, sequence_number: u8, message_length: MessageLength) -> Segment {
-    Segment {
-        transaction_id,
-        sequence_number,
-        kind: SegmentKind::Continue { message_length },
-    }
-}
-
-pub fn end(
-    transaction_id: u8,
-    sequence_number: u8,
-    message_length: MessageLength,
-    crc: MessageCrc,
-) -> Segment {
-    Segment {
-        transaction_id,
-        sequence_number,
-        kind: SegmentKind::End {
-            message_length,
-            crc,
-        },
-    }
-}
-
-pub fn services(
-    compression: Compression,
-    acknowledgment_window: AcknowledgmentWindow,
-    crc_status: CrcStatus,
-) -> Services {
-    Services::SpelledOut(OptionalServices {
-        compression,
-        acknowledgment_window,
-        crc_status,
-    })
-}
-
-pub fn every4() -> Services {
-    services(
-        Compression::None,
-        AcknowledgmentWindow::Every4,
-        CrcStatus::None,
-    )
-}
 
 // Reading.
 
@@ -153,17 +79,6 @@ fn is_refused(answer: EncodeAnswer, number: u8, field: u8) -> bool {
     }
 }
 
-fn outcome_of(answered: bool, left: bool) -> Outcome {
-    if !answered {
-        return Outcome::Differs;
-    }
-    if left {
-        Outcome::Same
-    } else {
-        Outcome::Differs
-    }
-}
-
 // Writing the segment with its data gives the three octets of the header, the data and the parameters, and no more.
 pub fn writes(
     tally: Tally,
@@ -185,7 +100,10 @@ pub fn writes(
         .octets(&mut expected, parameters);
     let answer = s.encode(octets, version, &mut output[0..room]);
     let answered = is_encoded(answer, place.at);
-    counted(tally, outcome_of(answered, same_output(&output, &expected)))
+    counted(
+        tally,
+        outcome_if_both(answered, same_output(&output, &expected)),
+    )
 }
 
 // Writing the segment gives refusal number/field and changes no octet.
@@ -205,5 +123,8 @@ pub fn not_written(
     let expected = [FILL; MAX_ROOM];
     let answer = s.encode(octets, version, &mut output[0..room]);
     let answered = is_refused(answer, number, field);
-    counted(tally, outcome_of(answered, same_output(&output, &expected)))
+    counted(
+        tally,
+        outcome_if_both(answered, same_output(&output, &expected)),
+    )
 }

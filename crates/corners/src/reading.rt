@@ -1,10 +1,10 @@
 // Reading: document 01's corners and the boundaries of its refusals, case by case.
-use crate::codec::begin;
-use crate::codec::end;
-use crate::codec::every4;
-use crate::codec::later;
 use crate::codec::reads;
 use crate::codec::refuses;
+use crate::segments::begin;
+use crate::segments::end;
+use crate::segments::every4;
+use crate::segments::later;
 use tally::Tally;
 use tsar::MessageCrc;
 use tsar::MessageLength;

@@ -1,10 +1,10 @@
 // Reading: cases that a loop makes. Each loop gives its cases to one function.
-use crate::codec::begin;
-use crate::codec::end;
-use crate::codec::later;
 use crate::codec::reads;
 use crate::codec::refuses;
-use crate::codec::services;
+use crate::segments::begin;
+use crate::segments::end;
+use crate::segments::later;
+use crate::segments::services;
 use recorded::head::compression_of;
 use recorded::head::crc_status_of;
 use recorded::head::window_of;

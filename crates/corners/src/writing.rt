@@ -1,11 +1,11 @@
 // Writing: document 01's corners, the boundary of each refusal, and room. Every octet of the output is compared.
-use crate::codec::begin;
-use crate::codec::end;
-use crate::codec::every4;
-use crate::codec::later;
 use crate::codec::not_written;
-use crate::codec::services;
 use crate::codec::writes;
+use crate::segments::begin;
+use crate::segments::end;
+use crate::segments::every4;
+use crate::segments::later;
+use crate::segments::services;
 use tally::Tally;
 use tsar::AcknowledgmentWindow;
 use tsar::Compression;
