@@ -2,6 +2,8 @@
 use libc::STDOUT_FILENO;
 use recorded::Outcome;
 
+pub mod counting;
+
 // Of so many cases that differ the number is printed, and of so many that are malformed; the rest are only counted.
 const MAX_SHOWN: u64 = 5;
 
