@@ -22,7 +22,7 @@ struct Run {
 }
 
 // Counts a case, and prints its number and its op where it is among the first that are not the same.
-fn counted(tally: Tally, op: u8, outcome: Outcome) -> Tally {
+pub fn counted(tally: Tally, op: u8, outcome: Outcome) -> Tally {
     let next = tally.count(outcome);
     if next.shows(outcome) {
         next.say_case(outcome);
