@@ -149,6 +149,16 @@ pub fn frozen_of(input: &[u8], entries: &[u8], joined: &[u8], message: &[u8]) ->
     )
 }
 
+// The lengths of the joined data and of the message of an input of op 11.
+
+pub fn joined_length(input: &[u8]) -> usize {
+    be32(input, JOINED_LENGTH) as usize
+}
+
+pub fn message_length(input: &[u8]) -> usize {
+    be32(input, MESSAGE_LENGTH) as usize
+}
+
 // The message and the joined data of an input of op 11.
 pub fn fill(input: &[u8], joined: &mut [u8], message: &mut [u8]) {
     pattern(message, be8(input, MESSAGE_SEED));
@@ -180,8 +190,8 @@ pub fn frozen_case(
     message: &mut [u8],
     scratch: &mut [u8],
 ) -> Outcome {
-    let n = be32(input, JOINED_LENGTH) as usize;
-    let m = be32(input, MESSAGE_LENGTH) as usize;
+    let n = joined_length(input);
+    let m = message_length(input);
     if joined.len() < n {
         return Outcome::Malformed;
     }

@@ -195,8 +195,13 @@ pub fn message_length(input: &[u8]) -> usize {
     be32(input, 0) as usize
 }
 
-fn planned(input: &[u8], expected: &[u8], message: &mut [u8], scratch: &mut [u8]) -> Outcome {
+// The message of an input of op 10.
+pub fn fill_message(input: &[u8], message: &mut [u8]) {
     pattern(message, be8(input, SEED));
+}
+
+fn planned(input: &[u8], expected: &[u8], message: &mut [u8], scratch: &mut [u8]) -> Outcome {
+    fill_message(input, message);
     let plan = plan_of(input, message);
     let place = put_plan(scratch, plan, message, be8(input, VERSION));
     place.compared(scratch, expected)
