@@ -1,7 +1,9 @@
-// The receiver as the firmware calls it: lent by `&mut`, with receive, advance and cancel as the source names them. Each call takes the lent
-// record apart, makes the call of the same name by value, stores what that hands back, and answers. The contracts cite the definitions of
-// the calls by value, receiveOf, advanceOf and cancelOf, at what is lent on entry and on exit. Demand 3's statement (crates/delivery) is
-// about lists of these definitions' steps, so it holds of a list of lent calls as it does of calls by value.
+// The receiver as the firmware calls it: lent by `&mut`, with receive, advance and cancel as the source names them. Each takes what is lent
+// apart, makes the call of the same name by value, stores what that hands back, and answers.
+//
+// The contracts cite the definitions of the calls by value, receiveOf, advanceOf and cancelOf, at the record, the store and the output on
+// entry and on exit. These are the step function stepOf (crates/delivery, specs/Calls) of which demand 3 is proved (specs/Theorem, demand3):
+// a list of lent calls goes through the steps that demand 3 speaks of, so its statement is carried over to the lent calls as it stands.
 use link::HigherLayerProtocol;
 use link::MobileIdentity;
 use receiver::AdvanceAnswer;

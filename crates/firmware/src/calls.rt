@@ -1,0 +1,218 @@
+// Two receptions, each a list of lent calls.
+use crate::lends;
+use crate::says;
+use link::HigherLayerProtocol;
+use link::MobileIdentity;
+use octets::same;
+use receiver::Receiver;
+use tally::say;
+use tally::say_number;
+use tsar::AcknowledgmentWindow;
+use tsar::Compression;
+use tsar::CrcStatus;
+use tsar::MessageCrc;
+use tsar::MessageLength;
+use tsar::OptionalServices;
+use tsar::Segment;
+use tsar::SegmentKind;
+use tsar::Services;
+
+const VERSION: u8 = 5;
+
+// What a message may have, and what this one has.
+const MAXIMUM_OCTETS: usize = 700;
+
+const MESSAGE_OCTETS: u16 = 600;
+
+// The slots of the store; the store itself is longer.
+const SLOTS_OCTETS: usize = 65_280;
+
+const FILL: u8 = 0xA5;
+
+fn peer() -> MobileIdentity {
+    MobileIdentity {
+        kind: 1,
+        width: 34,
+        value: 0x2_1234_5678,
+    }
+}
+
+fn protocol() -> HigherLayerProtocol {
+    HigherLayerProtocol::Segmented(0)
+}
+
+// A receiver of a transaction, made at reading 0.
+fn made(transaction_id: u8) -> Receiver {
+    let out = Receiver::try_new(
+        peer(),
+        protocol(),
+        transaction_id,
+        VERSION,
+        MAXIMUM_OCTETS,
+        0,
+    );
+    out.receiver
+}
+
+// The first segment, with a response asked for at the last one.
+fn begin(transaction_id: u8) -> Segment {
+    let services = OptionalServices {
+        compression: Compression::None,
+        acknowledgment_window: AcknowledgmentWindow::Last,
+        crc_status: CrcStatus::None,
+    };
+    Segment {
+        transaction_id,
+        sequence_number: 0,
+        kind: SegmentKind::Begin {
+            message_length: MessageLength::Stated(MESSAGE_OCTETS),
+            services: Services::SpelledOut(services),
+        },
+    }
+}
+
+fn middle(transaction_id: u8) -> Segment {
+    Segment {
+        transaction_id,
+        sequence_number: 1,
+        kind: SegmentKind::Continue {
+            message_length: MessageLength::Unstated,
+        },
+    }
+}
+
+fn end(transaction_id: u8) -> Segment {
+    Segment {
+        transaction_id,
+        sequence_number: 2,
+        kind: SegmentKind::End {
+            message_length: MessageLength::Unstated,
+            crc: MessageCrc::Absent,
+        },
+    }
+}
+
+fn say_at(reading: u64) {
+    say(b" at ");
+    say_number(reading);
+    say(b" ms: ");
+}
+
+fn receive(
+    receiver: Receiver,
+    segment: Segment,
+    data: &[u8],
+    reading: u64,
+    store: &mut [u8],
+    output: &mut [u8],
+) -> Receiver {
+    say(b"  receive, segment ");
+    say_number(segment.sequence_number as u64);
+    say_at(reading);
+    let out = lends::receive(
+        receiver,
+        peer(),
+        protocol(),
+        segment,
+        data,
+        0,
+        reading,
+        store,
+        output,
+    );
+    let answer = out.answer;
+    says::received(answer);
+    out.receiver
+}
+
+fn advance(receiver: Receiver, reading: u64, store: &mut [u8]) -> Receiver {
+    say(b"  advance");
+    say_at(reading);
+    let out = lends::advance(receiver, reading, store);
+    let answer = out.answer;
+    says::advanced(answer);
+    out.receiver
+}
+
+fn cancel(receiver: Receiver, reading: u64, store: &mut [u8]) -> Receiver {
+    say(b"  cancel");
+    say_at(reading);
+    let out = lends::cancel(receiver, reading, store);
+    let answer = out.answer;
+    says::canceled(answer);
+    out.receiver
+}
+
+// Whether a part stands at an offset.
+fn stands(octets: &[u8], from: usize, part: &[u8]) -> bool {
+    let n = part.len();
+    if octets.len() < from {
+        return false;
+    }
+    if octets.len() - from < n {
+        return false;
+    }
+    let until = from + n;
+    same(&octets[from..until], part)
+}
+
+// The message in the output, and what lies after it.
+fn handed_over(output: &[u8], first: &[u8], second: &[u8], third: &[u8]) {
+    let rest = [FILL; 100];
+    says::holds(b"  segment 0 in the output", stands(output, 0, first));
+    says::holds(b"  segment 1 in the output", stands(output, 255, second));
+    says::holds(b"  segment 2 in the output", stands(output, 510, third));
+    says::holds(
+        b"  output after the message as it was",
+        stands(output, 600, &rest),
+    );
+}
+
+// The store past its slots.
+fn past_slots(store: &[u8]) {
+    let rest = [FILL; 10];
+    says::holds(
+        b"  store past its slots as it was",
+        stands(store, SLOTS_OCTETS, &rest),
+    );
+}
+
+// A message of three segments: the second comes last, after the deadline asked for it.
+pub fn rebuilt() {
+    let mut store = [FILL; 65_290];
+    let mut output = [FILL; 700];
+    let first = [0x41u8; 255];
+    let second = [0x42u8; 255];
+    let third = [0x43u8; 90];
+    say(b"a message of 600 octets in three segments\n");
+    let r = made(1);
+    let r = advance(r, 900, &mut store);
+    let r = receive(r, begin(1), &first, 1_000, &mut store, &mut output);
+    let r = receive(r, end(1), &third, 2_000, &mut store, &mut output);
+    let r = receive(r, begin(1), &first, 3_000, &mut store, &mut output);
+    let r = advance(r, 302_999, &mut store);
+    let r = advance(r, 303_000, &mut store);
+    let r = receive(r, middle(1), &second, 304_000, &mut store, &mut output);
+    let r = cancel(r, 305_000, &mut store);
+    handed_over(&output, &first, &second, &third);
+    past_slots(&store);
+}
+
+// A reception that is canceled after its first segment, and a segment that comes too late for it.
+pub fn broken_off() {
+    let mut store = [FILL; 65_290];
+    let mut output = [FILL; 700];
+    let first = [0x44u8; 255];
+    let second = [0x45u8; 255];
+    let wiped = [0u8; 65_280];
+    say(b"a reception that is canceled\n");
+    let r = made(2);
+    let r = receive(r, middle(2), &second, 500, &mut store, &mut output);
+    let r = receive(r, begin(2), &first, 1_000, &mut store, &mut output);
+    let r = cancel(r, 999, &mut store);
+    let r = cancel(r, 2_000, &mut store);
+    let r = receive(r, middle(2), &second, 3_000, &mut store, &mut output);
+    let r = advance(r, 4_000, &mut store);
+    says::holds(b"  slots of the store all 0", stands(&store, 0, &wiped));
+    past_slots(&store);
+}
