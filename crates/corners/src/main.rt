@@ -3,4 +3,5 @@
 fn main() {
     corners_codec::codec_corners();
     corners_plan::plan_corners();
+    corners_sender::sender_corners();
 }
