@@ -13,11 +13,15 @@ use Rattle.receiver.specs.declared.ReceiverState.the-variants as state
 use Rattle.receiver.specs.declared.Terms.{Terms}
 use Rattle.receiver.specs.declared.Receiver.{Receiver}
 use Rattle.receiver.specs.declared.checks.Brought.{Brought}
+use Rattle.receiver.specs.declared.machine.Fired.{Fired}
+use Rattle.receiver.specs.declared.turns.Slots.{Slots}
+use Rattle.receiver.specs.declared.turns.Turn.{Turn}
 use Rattle.receiver.specs.Record.{kindAt, late, due, impossible, wiped, closed}
 use Rattle.receiver.specs.Answers.{Step, refuses, answered}
 use Rattle.receiver.specs.Receive.{Arrival, receiveRows, receiveAfter, receiveOf}
 use Rattle.receiver.specs.Advance.{Made, tryNewRows, madeAfter, tryNewOf, noReceiver, empty, fires, advanceAfter, advanceOf, cancelAfter, cancelOf}
-use Rattle.receiver.specs.Steps.{faultsOf, clockRowsOf, cancelRowsOf, arrivalRows, arrived, Fits, takenOf}
+use Rattle.receiver.specs.Says.{received, advanced}
+use Rattle.receiver.specs.Steps.{fired, faultsOf, clockRowsOf, cancelRowsOf, arrivalRows, arrived, turned, Fits, takenOf}
 use Rattle.receiver.proofs.Possible.{count-small}
 use Rattle.receiver.proofs.Settling.{late-arrived}
 
@@ -50,10 +54,17 @@ module _ (r : Receiver) (store : List ℕ) (reading : ℕ) (bad : Bool) (b : bad
   advance-refused n e =
       ap (λ (o : Option Refusal). advanceAfter o r store reading) (e ∙ ap (λ (x : Bool). refusal (clockRowsOf (length store) x (r .progress .«last_monotonic_ms») reading)) b)
 
-  pub advance-passed : clock none → fires (due (r .progress .«deadline_monotonic_ms») reading) (prohibited (r .progress .services .«acknowledgment_window»)) r store reading ≡ advanceOf r store reading
+  advance-passed : clock none → fires (due (r .progress .«deadline_monotonic_ms») reading) (prohibited (r .progress .services .«acknowledgment_window»)) r store reading ≡ advanceOf r store reading
   unfolding advanceOf
   advance-passed e =
       ap (λ (o : Option Refusal). advanceAfter o r store reading) (e ∙ ap (λ (x : Bool). refusal (clockRowsOf (length store) x (r .progress .«last_monotonic_ms») reading)) b)
+
+  -- what the deadline does is what the call leaves
+  pub advance-fired : (x : Fired) (t : Bool) (store′ : List ℕ) → clock none → x .expired ≡ t
+      → advanced (fired r x) store′ ≡ fires (due (r .progress .«deadline_monotonic_ms») reading) (prohibited (r .progress .services .«acknowledgment_window»)) r store reading
+      → advanced (fired r (record { reply = x .reply; progress = x .progress; expired = t })) store′ ≡ advanceOf r store reading
+  advance-fired x t store′ e et h =
+      ap (λ (b : Bool). advanced (fired r (record { reply = x .reply; progress = x .progress; expired = b })) store′) (sym et) ∙ h ∙ advance-passed e
 
   abbrev canceling : Option Refusal → Type 0
   canceling o = o ≡ refusal (cancelRowsOf (length store) bad (r .progress) reading)
@@ -87,10 +98,18 @@ module _ (r : Receiver) (a : Arrival) (store out : List ℕ) (bad : Bool) (b : b
   unfolding receiveOf
   receive-refused n e = ap (λ (o : Option Refusal). receiveAfter 300000 o r a store out) (rows-are (some n) e)
 
-  pub receive-taken : arriving none → takenOf r (arrived (a .segment) (a .octets) (a .reading)) store out ≡ receiveOf 300000 r a store out
+  receive-taken : arriving none → takenOf r (arrived (a .segment) (a .octets) (a .reading)) store out ≡ receiveOf 300000 r a store out
   unfolding receiveOf takenOf
   receive-taken e =
       late-arrived 300000 (late (r .progress .«deadline_monotonic_ms») (a .reading)) (prohibited (r .progress .services .«acknowledgment_window»)) r a store out ∙ ap (λ (o : Option Refusal). receiveAfter 300000 o r a store out) (rows-are none e)
+
+  -- a segment that passes leaves what its turn says
+  pub receive-turned : (x : Turn) (s : Slots) (store′ out′ : List ℕ) → arriving none → x .slots ≡ s
+      → received (turned r (a .segment) (length (a .octets)) x) store′ out′ ≡ takenOf r (arrived (a .segment) (a .octets) (a .reading)) store out
+      → received (turned r (a .segment) (length (a .octets)) (record { answer = x .answer; progress = x .progress; held = x .held; slots = s })) store′ out′ ≡ receiveOf 300000 r a store out
+  receive-turned x s store′ out′ e es h =
+      ap (λ (t : Slots). received (turned r (a .segment) (length (a .octets)) (record { answer = x .answer; progress = x .progress; held = x .held; slots = t })) store′ out′) (sym es) ∙ h
+      ∙ receive-taken e
 
   -- a segment that passes is short and early enough
   pub fits : arriving none → Fits r (length (a .octets)) (a .reading)

@@ -2,17 +2,18 @@
 use mathlib.Core.Path.{_≡_, refl, sym, ap, ap₂, _∙_}
 use mathlib.Core.Bool.{Bool, true, false, cond, not, _&&_, _||_, or-false}
 use mathlib.Core.List.{List}
-use Prim.Native.Nat.{ℕ, zero, suc, _+_, _*_, _≤_, _<_}
-use native.Mathlib.Nat.{add-zero, add-suc, add-assoc}
+use Prim.Native.Nat.{ℕ, zero, suc, _+_, _*_, _/_, _%_, _^_, _≤_, _<_}
+use native.Mathlib.Nat.{add-zero, add-suc, add-assoc, mul-one, mul-zero}
 use native.Mathlib.Omega.{arith}
 use borrow.Author.Tests.{leb-true, leb-false, lt-ltb, le-ltb}
 use lib.Dec.{leb, ltb}
 use lib.ListN.{getD}
 use Rattle.words.specs.Marks.{bit, allBelow}
 use Rattle.words.specs.Search.{allBelow-ext}
+use Rattle.words.specs.Sums.{bit-cond, bit-sum, sum-front}
 use Rattle.words.specs.declared.Words.{Words}
 use Rattle.receiver.specs.Record.{heldLength, sumTo}
-use Rattle.receiver.specs.Steps.{Upto}
+use Rattle.receiver.specs.Steps.{Added, wordLength, Upto}
 use Rattle.receiver.specs.declared.faults.HeldLengths.{HeldLengths}
 
 -- ---- sums and questions, one more and in two parts
@@ -75,17 +76,12 @@ or-right false b c = refl
 
 -- ---- n numbers more
 
-pub record Added (f : ℕ → ℕ) (n : ℕ) (x y : HeldLengths) : Type 0 where
-  pub sum-is : y .sum ≡ x .sum + sumTo n f
-  pub over-is : y .over ≡ (x .over || not (allBelow n (λ t. leb (f t) 255)))
-  pub small : y .sum ≤ x .sum + 65535 * n
-
 pub added-none : (f : ℕ → ℕ) (x : HeldLengths) → Added f 0 x x
 unfolding sumTo allBelow
 added-none f x = record { sum-is = sym (add-zero (x .sum)); over-is = sym (or-false (x .over)); small = omega arith }
 
-more : (f : ℕ → ℕ) (n m : ℕ) (x y : HeldLengths) → f n ≡ m → m ≤ 65535 → Added f n x y → Added f (suc n) x (record { sum = y .sum + m; over = y .over || ltb 255 m })
-more f n m x y e l u =
+pub added-more : (f : ℕ → ℕ) (n m : ℕ) (x y : HeldLengths) → f n ≡ m → m ≤ 65535 → Added f n x y → Added f (suc n) x (record { sum = y .sum + m; over = y .over || ltb 255 m })
+added-more f n m x y e l u =
     record {
       sum-is = ap₂ (λ (a b : ℕ). a + b) (u .sum-is) (sym e) ∙ add-assoc (x .sum) (sumTo n f) (f n) ∙ ap (λ (k : ℕ). x .sum + k) (sym (sum-suc n f));
       over-is = ap₂ {C = Bool} (λ (a b : Bool). a || b) (u .over-is) (past-not m ∙ ap (λ (k : ℕ). not (leb k 255)) (sym e))
@@ -94,20 +90,18 @@ more f n m x y e l u =
       small = omega (arith, u .small);
     }
 
--- the lengths that a word marks from a slot on
-abbrev pub wordLength : ℕ → List ℕ → ℕ → ℕ → ℕ
-wordLength word lengths from j = cond (bit word j) (getD lengths (from + j) 0) 0
+-- a number times a bit: the number or 0
+pub times-bit : (n word j : ℕ) → n * (word / 2 ^ j % 2) ≡ cond (bit word j) n 0
+times-bit n word j = ap (λ (b : ℕ). n * b) (bit-cond word j) ∙ by-case (bit word j)
+  where
+    by-case : (t : Bool) → n * cond t 1 0 ≡ cond t n 0
+    by-case true = mul-one n
+    by-case false = mul-zero n
 
-module _ (word : ℕ) (lengths : List ℕ) (from : ℕ) (x y : HeldLengths) (j : ℕ) where
-  -- a slot that is marked
-  pub added-held : (m : ℕ) → bit word j ≡ true → m ≡ getD lengths (from + j) 0 → m ≤ 65535 → Added (wordLength word lengths from) j x y → Added (wordLength word lengths from) (suc j) x (record { sum = y .sum + m; over = y .over || ltb 255 m })
-  added-held m b e l u = more (wordLength word lengths from) j m x y (ap (λ (t : Bool). cond t (getD lengths (from + j) 0) 0) b ∙ sym e) l u
-
-  -- a slot that isn't
-  pub added-clear : bit word j ≡ false → Added (wordLength word lengths from) j x y → Added (wordLength word lengths from) (suc j) x y
-  added-clear b u =
-      let w = more (wordLength word lengths from) j 0 x y (ap (λ (t : Bool). cond t (getD lengths (from + j) 0) 0) b) (omega arith) u in
-      record { sum-is = sym (add-zero (y .sum)) ∙ w .sum-is; over-is = sym (or-false (y .over)) ∙ w .over-is; small = omega (arith, u .small) }
+-- every bit of the highest word is set
+pub all-set : (j : ℕ) → j < 64 → bit 18446744073709551615 j ≡ true
+all-set j l =
+    ap (λ (w : ℕ). bit w j) (sym (sum-front 64 64 (λ _. true) (omega arith) (λ _ _. refl) (λ j p q. absurd (omega arith)))) ∙ bit-sum 64 (λ _. true) j l
 
 -- ---- the slots up to one
 
@@ -136,5 +130,5 @@ module _ (held : Words) (lengths : List ℕ) where
       zeros : (n : ℕ) → Added (λ _. 0) n x x
       zeros zero = added-none (λ _. 0) x
       zeros (suc n) =
-          let w = more (λ _. 0) n 0 x x refl (omega arith) (zeros n) in
+          let w = added-more (λ _. 0) n 0 x x refl (omega arith) (zeros n) in
           record { sum-is = sym (add-zero (x .sum)) ∙ w .sum-is; over-is = sym (or-false (x .over)) ∙ w .over-is; small = omega arith }

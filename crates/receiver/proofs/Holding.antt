@@ -19,15 +19,17 @@ use Rattle.receiver.specs.declared.Deadline.the-variants as deadline
 use Rattle.receiver.specs.declared.Progress.{Progress}
 use Rattle.receiver.specs.declared.Receiver.{Receiver}
 use Rattle.receiver.specs.declared.Reply.{Reply}
+use Rattle.receiver.specs.declared.Message.{Message}
 use Rattle.receiver.specs.declared.Message.the-variants as message
 use Rattle.receiver.specs.declared.ReceiveAnswer.the-variants as receives
 use Rattle.receiver.specs.declared.Receive.{Receive}
 use Rattle.receiver.specs.declared.replies.Standing.{Standing}
+use Rattle.receiver.specs.declared.turns.Slots.the-variants as after
 use Rattle.receiver.specs.Record.{receiving, complete, joined, with, timed}
 use Rattle.receiver.specs.Answers.{answered, lastEntry}
 use Rattle.receiver.specs.Receive.{repeats, keeps, finishes, settle}
 use Rattle.receiver.specs.Says.{received, replySays}
-use Rattle.receiver.specs.Steps.{standingOf, requiredReply, keptProgress, holding, arrived}
+use Rattle.receiver.specs.Steps.{standingOf, requiredReply, keptProgress, changed, turned, Leaves, arrived}
 
 -- ---- a segment that is held
 
@@ -51,48 +53,49 @@ module _ (r : Receiver) (g : Segment) (octets : List ℕ) (reading : ℕ) (store
   reply-is s d p h y reply st e eh ey q =
       q ∙ ap (λ (z : Standing). requiredReply (r .terms .«transaction_id») z g st) (ey ∙ (λ i. standingOf (e i) (eh i)))
 
+  -- what a segment that is held leaves
+  abbrev held-turn : Progress → Words → Reply → Message → Receive
+  held-turn p h reply m =
+      turned r g (length octets) (record { answer = receives.Received (record { response = reply; message = m }); progress = p; held = h; slots = after.Holding })
+
   -- with the message incomplete
-  pub kept-as : (p : Progress) (h : Words) (y : Standing) (reply : Reply) (x : Receive) (store′ : List ℕ)
+  pub kept-as : (p : Progress) (h : Words) (y : Standing) (reply : Reply) (store′ : List ℕ)
       → p ≡ progress′ state.Receiving (deadline.At (reading + 300000))
       → h ≡ held′
       → y ≡ standingOf p h
       → replySays reply ≡ requiredReply (r .terms .«transaction_id») y g status.Continuing
-      → x ≡ holding r g (length octets) p (record { response = reply; message = message.Nothing })
       → store′ ≡ store″
-      → received x store′ [] ≡ settle 300000 keeps r (arrived g octets reading) store []
-  kept-as p h y reply x store′ e eh ey q ex et =
-      ap (λ (z : Receive). received z store′ []) ex
-      ∙ (λ i. record {
+      → received (held-turn p h reply message.Nothing) store′ [] ≡ settle 300000 keeps r (arrived g octets reading) store []
+  kept-as p h y reply store′ e eh ey q et =
+      λ i. record {
         answer = answered (reply-is state.Receiving (deadline.At (reading + 300000)) p h y reply status.Continuing e eh ey q i) none;
-        receiver = holding r g (length octets) (e i) (record { response = reply; message = message.Nothing }) .receiver;
+        receiver = changed after.Holding r g (length octets) (e i) (eh i);
         store = et i;
         output = [];
-      })
+      }
 
   -- with the message complete
-  pub finished-as : (p : Progress) (h : Words) (y : Standing) (reply : Reply) (x : Receive) (store′ out out′ lens : List ℕ) (last count : ℕ)
+  pub finished-as : (p : Progress) (h : Words) (y : Standing) (reply : Reply) (store′ out out′ lens : List ℕ) (last count : ℕ)
       → p ≡ progress′ state.Complete deadline.Off
       → h ≡ held′
       → y ≡ standingOf p h
       → replySays reply ≡ requiredReply (r .terms .«transaction_id») y g status.Received
-      → x ≡ holding r g (length octets) p (record { response = reply; message = message.Octets count })
       → store′ ≡ store″
       → lens ≡ lengths′
       → last ≡ lastEntry false h (p .«end_sequence»)
       → count ≡ length (joined lens store′ (suc last))
       → out′ ≡ sets out 0 (joined lens store′ (suc last))
-      → received x store′ out′ ≡ settle 300000 finishes r (arrived g octets reading) store out
-  finished-as p h y reply x store′ out out′ lens last count e eh ey q ex et en el ec eo =
+      → received (held-turn p h reply (message.Octets count)) store′ out′ ≡ settle 300000 finishes r (arrived g octets reading) store out
+  finished-as p h y reply store′ out out′ lens last count e eh ey q et en el ec eo =
       let whole : joined lens store′ (suc last) ≡ joined lengths′ store″ (suc (lastEntry false held′ (progress′ state.Complete deadline.Off .«end_sequence»))) =
       (λ i. joined (en i) (et i) (suc (el i))) ∙ (λ i. joined lengths′ store″ (suc (lastEntry false (eh i) (e i .«end_sequence»))))
       in
-      ap (λ (z : Receive). received z store′ out′) ex
-      ∙ (λ i. record {
+      λ i. record {
         answer = answered (reply-is state.Complete deadline.Off p h y reply status.Received e eh ey q i) (some ((ec ∙ ap length whole) i));
-        receiver = holding r g (length octets) (e i) (record { response = reply; message = message.Octets count }) .receiver;
+        receiver = changed after.Holding r g (length octets) (e i) (eh i);
         store = et i;
         output = (eo ∙ ap (sets out 0) whole) i;
-      })
+      }
 
 -- ---- the same segment again
 
@@ -102,9 +105,9 @@ pub repeated-as : (r : Receiver) (g : Segment) (reading : ℕ) (y : Standing) (s
     → d ≡ cond (receiving (r .progress .state)) (deadline.At (reading + 300000)) (r .progress .«deadline_monotonic_ms»)
     → p ≡ timed (r .progress) d reading
     → replySays reply ≡ requiredReply (r .terms .«transaction_id») y g s
-    → received (record { answer = receives.Received (record { response = reply; message = message.Nothing }); receiver = with r p }) [] [] ≡ settle 300000 repeats r (arrived g [] reading) [] []
+    → Leaves r (record { answer = receives.Received (record { response = reply; message = message.Nothing }); progress = p; held = r .held; slots = after.Unchanged }) [] [] (settle 300000 repeats r (arrived g [] reading) [] [])
 repeated-as r g reading y s d p reply ey es ed ep q =
-    λ i. record {
+    λ _ _ i. record {
       answer = answered ((q ∙ (λ j. requiredReply (r .terms .«transaction_id») (ey j) g (es j))) i) none;
       receiver = with r ((ep ∙ (λ j. timed (r .progress) (ed j) reading)) i);
       store = [];

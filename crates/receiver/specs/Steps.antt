@@ -5,8 +5,8 @@ use mathlib.Core.List.{List, [], _∷_, _++_}
 use mathlib.Core.Bool.{Bool, true, false, cond, not, _&&_, _||_}
 use mathlib.Core.Option.{Option, none, some}
 use lib.Dec.{eqb, leb, ltb}
-use lib.ListN.{set}
-use Rattle.words.specs.Marks.{marked, noMarks, wordsOf, allBelow}
+use lib.ListN.{getD, set}
+use Rattle.words.specs.Marks.{bit, marked, noMarks, wordsOf, allBelow}
 use Rattle.words.specs.declared.Words.{Words}
 use Rattle.link.specs.Peer.{sameIdentity, sameProtocol}
 use Rattle.link.specs.declared.HigherLayerProtocol.the-variants.{Segmented}
@@ -29,9 +29,10 @@ use Rattle.receiver.specs.declared.Deadline.the-variants as deadline
 use Rattle.receiver.specs.declared.Terms.{Terms}
 use Rattle.receiver.specs.declared.Progress.{Progress}
 use Rattle.receiver.specs.declared.Receiver.{Receiver}
-use Rattle.receiver.specs.declared.Reception.{Reception}
-use Rattle.receiver.specs.declared.ReceiveAnswer.the-variants as receives
 use Rattle.receiver.specs.declared.Receive.{Receive}
+use Rattle.receiver.specs.declared.AdvanceAnswer.the-variants as advances
+use Rattle.receiver.specs.declared.Advance.{Advance}
+use Rattle.receiver.specs.declared.machine.Fired.{Fired}
 use Rattle.receiver.specs.declared.replies.Standing.{Standing}
 use Rattle.receiver.specs.declared.faults.HeldLengths.{HeldLengths}
 use Rattle.receiver.specs.declared.checks.Check.{Check}
@@ -43,9 +44,13 @@ use Rattle.receiver.specs.declared.rules.Decision.{Decision}
 use Rattle.receiver.specs.declared.rules.Decision.the-variants as decision
 use Rattle.receiver.specs.declared.rules.Place.{Place}
 use Rattle.receiver.specs.declared.rules.Amounts.{Amounts}
+use Rattle.receiver.specs.declared.turns.Slots.{Slots}
+use Rattle.receiver.specs.declared.turns.Slots.the-variants as after
+use Rattle.receiver.specs.declared.turns.Turn.{Turn}
 use Rattle.receiver.specs.Numbers.{receiveNumber}
-use Rattle.receiver.specs.Record.{taking, awaiting, receiving, complete, receivingOrComplete, statesBelow, statesAbove, clash, pastEnd, otherEnd, running, storeOctets, heldLength, sumTo, emptySlots, emptyLengths, gap, late, wiped, read}
+use Rattle.receiver.specs.Record.{taking, awaiting, receiving, complete, receivingOrComplete, statesBelow, statesAbove, clash, pastEnd, otherEnd, running, storeOctets, heldLength, sumTo, kindAt, lengthAt, emptySlots, emptyLengths, gap, late, wiped, with, read}
 use Rattle.receiver.specs.Answers.{Step, refused, answered, refuses, lastEntry, acknowledges, periodic, listedIn}
+use Rattle.receiver.specs.Says.{received}
 use Rattle.receiver.specs.Receive as receive
 use Rattle.receiver.specs.Receive.{Arrival, Outcome, fails, repeats, closes, keeps, finishes, before, begun, noted, keeping, servicesOf, statedOf, endOf, slotRules, settle, lateOr}
 
@@ -75,23 +80,27 @@ requiredReply transaction x g s =
 abbrev pub failReply : Terms → Standing → Status → Option Response
 failReply t x s = listedIn (eqb (statusNumber s) 13 && leb 5 (t .version)) (replyOf (t .«transaction_id») x s false)
 
-abbrev pub closedAs : Terms → Standing → ReceiverState → ℕ → Receiver
-closedAs t x s reading =
+abbrev pub closedProgress : Standing → ReceiverState → ℕ → Progress
+closedProgress x s reading =
     record {
-      terms = t;
-      progress = record {
-        state = s;
-        services = x .services;
-        «end_sequence» = x .«end_sequence»;
-        «message_length» = x .«message_length»;
-        «stored_octets» = 0;
-        «deadline_monotonic_ms» = deadline.Off;
-        «last_monotonic_ms» = reading;
-      };
-      held = noMarks;
-      lengths = emptyLengths;
-      slots = emptySlots;
+      state = s;
+      services = x .services;
+      «end_sequence» = x .«end_sequence»;
+      «message_length» = x .«message_length»;
+      «stored_octets» = 0;
+      «deadline_monotonic_ms» = deadline.Off;
+      «last_monotonic_ms» = reading;
     }
+
+abbrev pub emptiedAs : Terms → Progress → Receiver
+emptiedAs t p = record { terms = t; progress = p; held = noMarks; lengths = emptyLengths; slots = emptySlots }
+
+abbrev pub closedAs : Terms → Standing → ReceiverState → ℕ → Receiver
+closedAs t x s reading = emptiedAs t (closedProgress x s reading)
+
+-- what a deadline leaves
+abbrev pub fired : Receiver → Fired → Advance
+fired r x = record { answer = advances.Advanced (x .reply); receiver = cond (x .expired) (emptiedAs (r .terms) (x .progress)) (with r (x .progress)) }
 
 -- ---- 62
 
@@ -100,6 +109,16 @@ pub record Upto (held : Words) (lengths : List ℕ) (n : ℕ) (x : HeldLengths) 
   pub sum-is : x .sum ≡ sumTo n (heldLength held lengths)
   pub over-is : x .over ≡ not (allBelow n (λ t. leb (heldLength held lengths t) 255))
   pub small : x .sum ≤ 65535 * n
+
+-- the lengths that a word marks from a slot on
+abbrev pub wordLength : ℕ → List ℕ → ℕ → ℕ → ℕ
+wordLength word lengths from j = cond (bit word j) (getD lengths (from + j) 0) 0
+
+-- n numbers more than x
+pub record Added (f : ℕ → ℕ) (n : ℕ) (x y : HeldLengths) : Type 0 where
+  pub sum-is : y .sum ≡ x .sum + sumTo n f
+  pub over-is : y .over ≡ (x .over || not (allBelow n (λ t. leb (f t) 255)))
+  pub small : y .sum ≤ x .sum + 65535 * n
 
 abbrev pub lengthFaults : Words → List ℕ → ℕ → ℕ → List Bool
 lengthFaults held lengths stored maximum =
@@ -279,18 +298,30 @@ keptProgress p g n s d reading =
       «last_monotonic_ms» = reading;
     }
 
-abbrev pub holding : Receiver → Segment → ℕ → Progress → Reception → Receive
-holding r g n p x =
+-- the record that a segment of n octets leaves, by what becomes of the slots
+abbrev pub changed : Slots → Receiver → Segment → ℕ → Progress → Words → Receiver
+changed after.Unchanged r g n p held = record { terms = r .terms; progress = p; held = held; lengths = r .lengths; slots = r .slots }
+changed after.Holding r g n p held =
     record {
-      answer = receives.Received x;
-      receiver = record {
-        terms = r .terms;
-        progress = p;
-        held = wordsOf (λ t. eqb t (g .«sequence_number») || marked (r .held) t);
-        lengths = set (r .lengths) (g .«sequence_number») n;
-        slots = set (r .slots) (g .«sequence_number») (record { kind = g .kind });
-      };
+      terms = r .terms;
+      progress = p;
+      held = held;
+      lengths = set (r .lengths) (g .«sequence_number») n;
+      slots = set (r .slots) (g .«sequence_number») (record { kind = g .kind });
     }
+changed after.Emptied r g n p held = emptiedAs (r .terms) p
+
+abbrev pub turned : Receiver → Segment → ℕ → Turn → Receive
+turned r g n x = record { answer = x .answer; receiver = changed (x .slots) r g n (x .progress) (x .held) }
+
+-- a turn that leaves this, whatever the segment and its octets
+abbrev pub Leaves : Receiver → Turn → List ℕ → List ℕ → Step → Type 0
+Leaves r x store out s = (g : Segment) (n : ℕ) → received (turned r g n x) store out ≡ s
+
+-- what the slot of a segment records
+pub record Found (r : Receiver) (g : Segment) (k : SegmentKind) (n : ℕ) : Type 0 where
+  pub kind-is : k ≡ kindAt r (g .«sequence_number»)
+  pub length-is : n ≡ lengthAt r (g .«sequence_number»)
 
 -- the octets stored fit sixteen bits, and a deadline can be set
 pub record Fits (r : Receiver) (n reading : ℕ) : Type 0 where

@@ -12,15 +12,18 @@ use crate::states::wide;
 use tsar::SegmentKind;
 use words::Words;
 ghost use mathlib.Core.Path.{_≡_};
-ghost use mathlib.Core.Bool.{not, _&&_};
-ghost use Prim.Native.Nat.{_+_, _*_, _<_};
+ghost use mathlib.Core.Bool.{cond, not, _&&_};
+ghost use Prim.Native.Nat.{_+_, _*_, _<_, _≤_};
 ghost use lib.ListN.{getD};
-ghost use Rattle.words.specs.Marks.{wordsList, marked, allBelow};
+ghost use Rattle.words.specs.Marks.{bit, wordsList, marked, allBelow};
 ghost use Rattle.tsar.specs.Rows.{anyOf};
 ghost use Rattle.receiver.specs.Record.{pastEnd, gap as gapOf};
-ghost use Rattle.receiver.specs.Steps.{Upto, lengthFaults, stateFaults, faultsOf};
+ghost use Rattle.receiver.specs.Steps.{Added, wordLength, Upto, lengthFaults, stateFaults, faultsOf};
 
 const WORD_MARKS: usize = 64;
+
+// The word in which every mark is set.
+const ALL_MARKS: u64 = 18_446_744_073_709_551_615;
 
 // What a scan of the held lengths has found: their sum, and whether one passes 255.
 pub struct HeldLengths {
@@ -41,6 +44,48 @@ fn word(held: Words, k: usize) -> u64
     }
 }
 
+// The length of a slot that counts: n where bit j of the word is set, else 0.
+fn held_length(marks: u64, j: usize, n: u16) -> usize
+    requires { ⌜ j < 64 ⌝ }
+    ensures { λ r. ⌜ (r ≡ cond (bit marks j) n 0) × (r ≤ 65535) ⌝ }
+{
+    wide(n) * ((marks >> j) % 2) as usize
+}
+
+// With the 64 lengths from `from` on, all of them held.
+fn scan_all(from: usize, lengths: &[u16; 256], found: HeldLengths) -> HeldLengths
+    requires { ⌜ (from ≤ 192) × (found .sum ≤ 65535 * from) ⌝ }
+    ensures { λ r. ⌜ Added (λ j. getD (now (lengths .entry)) (from + j) 0) 64 found r ⌝ }
+{
+    let mut sum = found.sum;
+    let mut over = found.over;
+    let mut j: usize = 0;
+    while j < WORD_MARKS {
+        let n = wide(lengths[from + j]);
+        sum += n;
+        over = either(over, SLOT_OCTETS < n);
+        j += 1;
+    }
+    HeldLengths { sum, over }
+}
+
+// With those of the 64 lengths from `from` on that the word marks: a length that isn't held counts as 0, and no turn depends on a mark.
+fn scan_some(marks: u64, from: usize, lengths: &[u16; 256], found: HeldLengths) -> HeldLengths
+    requires { ⌜ (from ≤ 192) × (found .sum ≤ 65535 * from) ⌝ }
+    ensures { λ r. ⌜ Added (wordLength marks (now (lengths .entry)) from) 64 found r ⌝ }
+{
+    let mut sum = found.sum;
+    let mut over = found.over;
+    let mut j: usize = 0;
+    while j < WORD_MARKS {
+        let n = held_length(marks, j, lengths[from + j]);
+        sum += n;
+        over = either(over, SLOT_OCTETS < n);
+        j += 1;
+    }
+    HeldLengths { sum, over }
+}
+
 // With the held lengths that word k marks.
 fn scan_word(held: Words, k: usize, lengths: &[u16; 256], found: HeldLengths) -> HeldLengths
     requires { ⌜ (k < 4) × Upto held (now lengths) (64 * k) found ⌝ }
@@ -51,18 +96,10 @@ fn scan_word(held: Words, k: usize, lengths: &[u16; 256], found: HeldLengths) ->
         return found;
     }
     let from = WORD_MARKS * k;
-    let mut sum = found.sum;
-    let mut over = found.over;
-    let mut j: usize = 0;
-    while j < WORD_MARKS {
-        if (marks >> j) % 2 == 1 {
-            let n = wide(lengths[from + j]);
-            sum += n;
-            over = either(over, SLOT_OCTETS < n);
-        }
-        j += 1;
+    if marks == ALL_MARKS {
+        return scan_all(from, lengths, found);
     }
-    HeldLengths { sum, over }
+    scan_some(marks, from, lengths, found)
 }
 
 // The one pass over the slots: words that hold nothing are skipped.

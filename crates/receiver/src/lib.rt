@@ -18,6 +18,7 @@ pub mod replies;
 pub mod rules;
 pub mod same;
 pub mod states;
+pub mod turns;
 
 const REASSEMBLY_MS: u64 = 300_000;
 

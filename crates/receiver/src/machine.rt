@@ -5,17 +5,13 @@ use crate::Cancel;
 use crate::CancelAnswer;
 use crate::Deadline;
 use crate::EndSequence;
-use crate::Message;
 use crate::Progress;
-use crate::REASSEMBLY_MS;
 use crate::Receive;
 use crate::ReceiveAnswer;
 use crate::ReceiveError;
 use crate::Receiver;
 use crate::ReceiverState;
-use crate::Reception;
 use crate::Reply;
-use crate::SLOT_OCTETS;
 use crate::STORE_OCTETS;
 use crate::Slot;
 use crate::Terms;
@@ -27,31 +23,17 @@ use crate::checks::arrival_check;
 use crate::checks::cancel_check;
 use crate::checks::clock_check;
 use crate::faults::impossible;
-use crate::kinds::length_in;
 use crate::kinds::prohibited;
 use crate::kinds::services_or_default;
 use crate::replies::Standing;
-use crate::replies::fail_response;
-use crate::replies::last_entry;
-use crate::replies::required_response;
 use crate::replies::respond;
 use crate::replies::standing_of;
-use crate::rules::Amounts;
-use crate::rules::Decision;
-use crate::rules::Place;
-use crate::rules::decide;
-use crate::rules::end_of;
-use crate::rules::full_with;
-use crate::rules::services_of;
-use crate::rules::staged;
-use crate::rules::stated_of;
-use crate::same::same_kind;
-use crate::states::complete;
 use crate::states::due;
-use crate::states::late;
-use crate::states::receiving;
-use crate::states::smaller;
 use crate::states::wide;
+use crate::turns::Slots;
+use crate::turns::closed_progress;
+use crate::turns::take;
+use crate::turns::timed;
 use link::HigherLayerProtocol;
 use link::MobileIdentity;
 use response::Status;
@@ -62,19 +44,21 @@ use tsar::Services;
 use tsar::Validated;
 use words::Words;
 ghost use mathlib.Core.Path.{_≡_};
-ghost use mathlib.Core.Bool.{cond, _&&_};
 ghost use mathlib.Core.List.{[]};
-ghost use Prim.Native.Nat.{suc, _+_, _<_};
-ghost use lib.ListN.{length, take, drop};
-ghost use lib.Seq.{sets};
-ghost use Rattle.octets.specs.Octets.{sameOctets};
 ghost use Rattle.tsar.specs.Rows.{refusal};
 ghost use Rattle.tsar.specs.Kinds.{prohibited as prohibitedOf};
-ghost use Rattle.receiver.specs.Record.{emptySlots, emptyLengths, wiped, joined, receiving as receivingOf, complete as completeOf, due as dueOf, timed as timedOf};
-ghost use Rattle.receiver.specs.Receive.{repeats, keeps, finishes, sameKind, settle as settleOf, receiveOf};
+ghost use Rattle.receiver.specs.Record.{emptySlots, emptyLengths, wiped, due as dueOf};
+ghost use Rattle.receiver.specs.Receive.{receiveOf};
 ghost use Rattle.receiver.specs.Advance.{empty as emptyOf, tryNewRows, fires, tryNewOf, advanceOf, cancelOf};
 ghost use Rattle.receiver.specs.Says.{made, received, advanced, canceled};
-ghost use Rattle.receiver.specs.Steps.{closedAs, checkSays, arrived, noTerms, failed, tooLate, keptProgress, holding, Fits, settledOf, closesOf, takenOf};
+ghost use Rattle.receiver.specs.Steps.{emptiedAs, checkSays, noTerms, fired};
+
+// What a deadline does, where it is due: the reply, and the progress of a reception that goes on or has expired.
+pub struct Fired {
+    pub reply: Reply,
+    pub progress: Progress,
+    pub expired: bool,
+}
 
 fn empty_slots() -> [Slot; 256]
     ensures { λ r. ⌜ r ≡ emptySlots ⌝ }
@@ -101,33 +85,10 @@ pub fn wipe(store: &mut [u8])
     octets::wipe(store, STORE_OCTETS);
 }
 
-// With the deadline and the last reading.
-fn timed(progress: Progress, deadline: Deadline, reading: u64) -> Progress
-    ensures { λ r. ⌜ r ≡ timedOf progress deadline reading ⌝ }
+// A receiver of these terms and this progress with nothing held.
+fn emptied(terms: Terms, progress: Progress) -> Receiver
+    ensures { λ r. ⌜ r ≡ emptiedAs terms progress ⌝ }
 {
-    Progress {
-        deadline_monotonic_ms: deadline,
-        last_monotonic_ms: reading,
-        ..progress
-    }
-}
-
-// A receiver with nothing held, of these services, end and stated length.
-fn closed(terms: Terms, standing: Standing, state: ReceiverState, reading: u64) -> Receiver
-    ensures { λ r. ⌜ r ≡ closedAs terms standing state reading ⌝ }
-{
-    let services = standing.services;
-    let end_sequence = standing.end_sequence;
-    let message_length = standing.message_length;
-    let progress = Progress {
-        state,
-        services,
-        end_sequence,
-        message_length,
-        stored_octets: 0,
-        deadline_monotonic_ms: Deadline::Off,
-        last_monotonic_ms: reading,
-    };
     let held = Words::none();
     let lengths = empty_lengths();
     let slots = empty_slots();
@@ -140,7 +101,7 @@ fn closed(terms: Terms, standing: Standing, state: ReceiverState, reading: u64) 
     }
 }
 
-// A receiver of these terms with nothing held.
+// A receiver as try_new makes it, in a state.
 fn empty(terms: Terms, state: ReceiverState, reading: u64) -> Receiver
     ensures { λ r. ⌜ r ≡ emptyOf terms state reading ⌝ }
 {
@@ -152,7 +113,8 @@ fn empty(terms: Terms, state: ReceiverState, reading: u64) -> Receiver
         message_length: MessageLength::Unstated,
         held,
     };
-    closed(terms, standing, state, reading)
+    let progress = closed_progress(standing, state, reading);
+    emptied(terms, progress)
 }
 
 // 30, 31, codec.
@@ -199,121 +161,6 @@ fn no_terms() -> Terms
     }
 }
 
-// n octets of the store from `from` on, as far as it goes.
-fn part(store: &[u8], from: usize, n: usize) -> &[u8]
-    ensures { λ r. ⌜ now r ≡ take n (drop from (now (store .entry))) ⌝ }
-{
-    let start = smaller(from, store.len());
-    let until = start + smaller(n, store.len() - start);
-    &store[start..until]
-}
-
-// The slot holds this very segment: nothing is compared where it isn't held.
-fn same_slot(
-    held: bool,
-    old: SegmentKind,
-    kind: SegmentKind,
-    store: &[u8],
-    from: usize,
-    data: &[u8],
-) -> bool
-    ensures { λ r. ⌜ r ≡ (held && (sameKind old kind && sameOctets (take (length (now («data» .entry))) (drop from (now (store .entry)))) (now («data» .entry)))) ⌝ }
-{
-    if !held {
-        return false;
-    }
-    if !same_kind(old, kind) {
-        return false;
-    }
-    octets::same(part(store, from, data.len()), data)
-}
-
-// The data of slots 0 to last, in order, to the front of the output; their number.
-fn join(lengths: &[u16; 256], store: &[u8], last: u8, output: &mut [u8]) -> usize
-    ensures { λ r. ⌜ (r ≡ length (joined (now (lengths .entry)) (now (store .entry)) (suc last))) × (now (output .exit) ≡ sets (now (output .entry)) 0 (joined (now (lengths .entry)) (now (store .entry)) (suc last))) ⌝ }
-{
-    let count = last as usize + 1;
-    let mut at: usize = 0;
-    let mut t: usize = 0;
-    while t < count {
-        let piece = part(store, SLOT_OCTETS * t, wide(lengths[t]));
-        octets::put(output, at, piece);
-        at += piece.len();
-        t += 1;
-    }
-    at
-}
-
-// A reception fails: the response to it, and the store wiped.
-fn fail(terms: Terms, standing: Standing, status: Status, reading: u64, store: &mut [u8]) -> Receive
-    ensures { λ r. ⌜ received r (now (store .exit)) [] ≡ failed terms standing status reading (now (store .entry)) ⌝ }
-{
-    let response = fail_response(terms, standing, status);
-    wipe(store);
-    let reception = Reception {
-        response,
-        message: Message::Nothing,
-    };
-    let receiver = closed(terms, standing, ReceiverState::Failed(status), reading);
-    Receive {
-        answer: ReceiveAnswer::Received(reception),
-        receiver,
-    }
-}
-
-// The status of a repeat.
-fn repeat_status(state: ReceiverState) -> Status
-    ensures { λ r. ⌜ r ≡ cond (completeOf state) Status.Received Status.Continuing ⌝ }
-{
-    if complete(state) {
-        Status::Received
-    } else {
-        Status::Continuing
-    }
-}
-
-// The deadline after a repeat: a new one while receiving.
-fn repeat_deadline(state: ReceiverState, old: Deadline, reading: u64) -> Deadline
-    requires { ⌜ reading + 300000 < 18446744073709551616 ⌝ }
-    ensures { λ r. ⌜ r ≡ cond (receivingOf state) (Deadline.At (reading + 300000)) old ⌝ }
-{
-    if receiving(state) {
-        Deadline::At(reading + REASSEMBLY_MS)
-    } else {
-        old
-    }
-}
-
-// The progress with a segment of n octets held.
-fn kept_progress(
-    old: Progress,
-    segment: Segment,
-    n: usize,
-    state: ReceiverState,
-    deadline: Deadline,
-    reading: u64,
-) -> Progress
-    requires { ⌜ old .«stored_octets» + n < 65536 ⌝ }
-    ensures { λ r. ⌜ r ≡ keptProgress old segment n state deadline reading ⌝ }
-{
-    let kind = segment.kind;
-    let old_services = old.services;
-    let old_end = old.end_sequence;
-    let old_length = old.message_length;
-    let services = services_of(old_services, kind);
-    let end_sequence = end_of(old_end, kind, segment.sequence_number);
-    let message_length = stated_of(old_length, length_in(kind));
-    Progress {
-        state,
-        services,
-        end_sequence,
-        message_length,
-        stored_octets: old.stored_octets + n,
-        deadline_monotonic_ms: deadline,
-        last_monotonic_ms: reading,
-    }
-}
-
 impl Receiver {
     pub fn try_new(
         peer: MobileIdentity,
@@ -351,51 +198,48 @@ impl Receiver {
     }
 
     // What a due deadline does: under Prohibited the reception expires, else the answer asks for what is missing.
-    fn fire(self, reading: u64, store: &mut [u8]) -> Advance
-        ensures { λ r. ⌜ advanced r (now (store .exit)) ≡ fires (dueOf (self .progress .«deadline_monotonic_ms») reading) (prohibitedOf (self .progress .services .«acknowledgment_window»)) self (now (store .entry)) reading ⌝ }
+    fn fire(self, reading: u64, store: &mut [u8]) -> Fired
+        ensures { λ r. ⌜ advanced (fired self r) (now (store .exit)) ≡ fires (dueOf (self .progress .«deadline_monotonic_ms») reading) (prohibitedOf (self .progress .services .«acknowledgment_window»)) self (now (store .entry)) reading ⌝ }
     {
         let terms = self.terms;
         let progress = self.progress;
+        let held = self.held;
         let deadline = progress.deadline_monotonic_ms;
         if !due(deadline, reading) {
             let next = timed(progress, deadline, reading);
-            return Advance {
-                answer: AdvanceAnswer::Advanced(Reply::Nothing),
-                receiver: Receiver {
-                    progress: next,
-                    ..self
-                },
+            return Fired {
+                reply: Reply::Nothing,
+                progress: next,
+                expired: false,
             };
         }
-        let held = self.held;
         let standing = standing_of(progress, held);
         let services = progress.services;
         let window = services.acknowledgment_window;
         if prohibited(window) {
             wipe(store);
-            let receiver = closed(terms, standing, ReceiverState::Expired, reading);
-            return Advance {
-                answer: AdvanceAnswer::Advanced(Reply::Nothing),
-                receiver,
+            let next = closed_progress(standing, ReceiverState::Expired, reading);
+            return Fired {
+                reply: Reply::Nothing,
+                progress: next,
+                expired: true,
             };
         }
-        let response = respond(
+        let reply = respond(
             terms.transaction_id,
             standing,
             Status::InterSegmentTimeout,
             true,
         );
         let next = timed(progress, Deadline::Off, reading);
-        Advance {
-            answer: AdvanceAnswer::Advanced(response),
-            receiver: Receiver {
-                progress: next,
-                ..self
-            },
+        Fired {
+            reply,
+            progress: next,
+            expired: false,
         }
     }
 
-    pub fn advance(self, monotonic_ms: u64, store: &mut [u8]) -> Advance
+    pub fn advance(mut self, monotonic_ms: u64, store: &mut [u8]) -> Advance
         ensures { λ r. ⌜ advanced r (now (store .exit)) ≡ advanceOf self (now (store .entry)) «monotonic_ms» ⌝ }
     {
         let terms = self.terms;
@@ -416,7 +260,23 @@ impl Receiver {
                 answer: AdvanceAnswer::Refused(e),
                 receiver: self,
             },
-            Check::Passed => self.fire(monotonic_ms, store),
+            Check::Passed => {
+                let fired = self.fire(monotonic_ms, store);
+                let reply = fired.reply;
+                let next = fired.progress;
+                if fired.expired {
+                    let receiver = emptied(terms, next);
+                    return Advance {
+                        answer: AdvanceAnswer::Advanced(reply),
+                        receiver,
+                    };
+                }
+                self.progress = next;
+                Advance {
+                    answer: AdvanceAnswer::Advanced(reply),
+                    receiver: self,
+                }
+            }
         }
     }
 
@@ -443,7 +303,8 @@ impl Receiver {
             Check::Passed => {
                 wipe(store);
                 let standing = standing_of(progress, held);
-                let receiver = closed(terms, standing, ReceiverState::Canceled, monotonic_ms);
+                let next = closed_progress(standing, ReceiverState::Canceled, monotonic_ms);
+                let receiver = emptied(terms, next);
                 Cancel {
                     answer: CancelAnswer::Canceled,
                     receiver,
@@ -452,238 +313,9 @@ impl Receiver {
         }
     }
 
-    // Late: under Prohibited the reception expires, with 38, else 37.
-    fn too_late(self, reading: u64, store: &mut [u8]) -> Receive
-        ensures { λ r. ⌜ received r (now (store .exit)) [] ≡ tooLate (prohibitedOf (self .progress .services .«acknowledgment_window»)) self reading (now (store .entry)) ⌝ }
-    {
-        let progress = self.progress;
-        let services = progress.services;
-        let window = services.acknowledgment_window;
-        if !prohibited(window) {
-            return Receive {
-                answer: ReceiveAnswer::Refused(ReceiveError::TimerDue),
-                receiver: self,
-            };
-        }
-        let terms = self.terms;
-        let held = self.held;
-        wipe(store);
-        let standing = standing_of(progress, held);
-        let receiver = closed(terms, standing, ReceiverState::Expired, reading);
-        Receive {
-            answer: ReceiveAnswer::Refused(ReceiveError::Closed),
-            receiver,
-        }
-    }
-
-    // The same segment again.
-    fn repeat(self, segment: Segment, reading: u64) -> Receive
-        requires { ⌜ reading + 300000 < 18446744073709551616 ⌝ }
-        ensures { λ r. ⌜ received r [] [] ≡ settleOf 300000 repeats self (arrived segment [] reading) [] [] ⌝ }
-    {
-        let terms = self.terms;
-        let progress = self.progress;
-        let held = self.held;
-        let state = progress.state;
-        let old = progress.deadline_monotonic_ms;
-        let standing = standing_of(progress, held);
-        let status = repeat_status(state);
-        let response = required_response(terms.transaction_id, standing, segment, status);
-        let deadline = repeat_deadline(state, old, reading);
-        let next = timed(progress, deadline, reading);
-        let reception = Reception {
-            response,
-            message: Message::Nothing,
-        };
-        Receive {
-            answer: ReceiveAnswer::Received(reception),
-            receiver: Receiver {
-                progress: next,
-                ..self
-            },
-        }
-    }
-
-    // With the segment's mark, length and kind in its slot.
-    fn hold(mut self, segment: Segment, n: u16, progress: Progress, reception: Reception) -> Receive
-        ensures { λ r. ⌜ r ≡ holding self segment n progress reception ⌝ }
-    {
-        let kind = segment.kind;
-        let sequence = segment.sequence_number;
-        let at = sequence as usize;
-        let old = self.held;
-        let held = old.with(sequence);
-        self.lengths[at] = n;
-        self.slots[at] = Slot { kind };
-        Receive {
-            answer: ReceiveAnswer::Received(reception),
-            receiver: Receiver {
-                progress,
-                held,
-                ..self
-            },
-        }
-    }
-
-    // A segment that leaves the message incomplete.
-    fn keep(self, segment: Segment, data: &[u8], reading: u64, store: &mut [u8]) -> Receive
-        requires { ⌜ Fits self (length (now «data»)) reading ⌝ }
-        ensures { λ r. ⌜ received r (now (store .exit)) [] ≡ settleOf 300000 keeps self (arrived segment (now («data» .entry)) reading) (now (store .entry)) [] ⌝ }
-    {
-        let terms = self.terms;
-        let old = self.progress;
-        let held = self.held;
-        let sequence = segment.sequence_number;
-        octets::put(store, SLOT_OCTETS * sequence as usize, data);
-        let deadline = Deadline::At(reading + REASSEMBLY_MS);
-        let progress = kept_progress(
-            old,
-            segment,
-            data.len(),
-            ReceiverState::Receiving,
-            deadline,
-            reading,
-        );
-        let standing = standing_of(progress, held.with(sequence));
-        let response = required_response(
-            terms.transaction_id,
-            standing,
-            segment,
-            Status::Continuing,
-        );
-        let reception = Reception {
-            response,
-            message: Message::Nothing,
-        };
-        self.hold(segment, data.len() as u16, progress, reception)
-    }
-
-    // A segment that completes the message, which goes to the output.
-    fn finish(
-        self,
-        segment: Segment,
-        data: &[u8],
-        reading: u64,
-        store: &mut [u8],
-        output: &mut [u8],
-    ) -> Receive
-        requires { ⌜ Fits self (length (now «data»)) reading ⌝ }
-        ensures { λ r. ⌜ received r (now (store .exit)) (now (output .exit)) ≡ settleOf 300000 finishes self (arrived segment (now («data» .entry)) reading) (now (store .entry)) (now (output .entry)) ⌝ }
-    {
-        let terms = self.terms;
-        let old = self.progress;
-        let marks = self.held;
-        let sequence = segment.sequence_number;
-        let at = sequence as usize;
-        let n = data.len() as u16;
-        octets::put(store, SLOT_OCTETS * at, data);
-        let progress = kept_progress(
-            old,
-            segment,
-            data.len(),
-            ReceiverState::Complete,
-            Deadline::Off,
-            reading,
-        );
-        let held = marks.with(sequence);
-        let standing = standing_of(progress, held);
-        let mut lengths = self.lengths;
-        lengths[at] = n;
-        let end = progress.end_sequence;
-        let count = join(&lengths, store, last_entry(false, held, end), output);
-        let response = required_response(terms.transaction_id, standing, segment, Status::Received);
-        let reception = Reception {
-            response,
-            message: Message::Octets(count),
-        };
-        self.hold(segment, n, progress, reception)
-    }
-
-    // What the slots decide, and what is done.
-    fn settle(
-        self,
-        segment: Segment,
-        data: &[u8],
-        reading: u64,
-        store: &mut [u8],
-        output: &mut [u8],
-    ) -> Receive
-        requires { ⌜ Fits self (length (now «data»)) reading ⌝ }
-        ensures { λ r. ⌜ received r (now (store .exit)) (now (output .exit)) ≡ settledOf self (arrived segment (now («data» .entry)) reading) (now (store .entry)) (now (output .entry)) ⌝ }
-    {
-        let terms = self.terms;
-        let progress = self.progress;
-        let held = self.held;
-        let sequence = segment.sequence_number;
-        let kind = segment.kind;
-        let at = sequence as usize;
-        let slot = self.slots[at];
-        let old = slot.kind;
-        let has = held.has(sequence);
-        let old_end = progress.end_sequence;
-        let end = end_of(old_end, kind, sequence);
-        let place = Place {
-            held: has,
-            octets: wide(self.lengths[at]),
-            same: same_slot(has, old, kind, store, SLOT_OCTETS * at, data),
-            clear: held.none_past(sequence),
-            full: full_with(held, sequence, end),
-        };
-        let amounts = Amounts {
-            octets: data.len(),
-            total: progress.stored_octets + data.len(),
-            maximum: terms.maximum_message_octets,
-        };
-        match decide(progress, segment, place, amounts) {
-            Decision::Fails(stage, status) => {
-                let standing = staged(stage, progress, held, segment);
-                fail(terms, standing, status, reading, store)
-            }
-            Decision::Repeats => self.repeat(segment, reading),
-            Decision::Closes => self.closes(reading),
-            Decision::Keeps => self.keep(segment, data, reading, store),
-            Decision::Finishes => self.finish(segment, data, reading, store, output),
-        }
-    }
-
-    // A segment for an empty slot of a complete reception: 38, and the reading is taken.
-    fn closes(self, reading: u64) -> Receive
-        ensures { λ r. ⌜ received r [] [] ≡ closesOf self reading ⌝ }
-    {
-        let progress = self.progress;
-        let deadline = progress.deadline_monotonic_ms;
-        let next = timed(progress, deadline, reading);
-        Receive {
-            answer: ReceiveAnswer::Refused(ReceiveError::Closed),
-            receiver: Receiver {
-                progress: next,
-                ..self
-            },
-        }
-    }
-
-    // A segment that is not refused: late, or what the slots decide.
-    fn take(
-        self,
-        segment: Segment,
-        data: &[u8],
-        reading: u64,
-        store: &mut [u8],
-        output: &mut [u8],
-    ) -> Receive
-        requires { ⌜ Fits self (length (now «data»)) reading ⌝ }
-        ensures { λ r. ⌜ received r (now (store .exit)) (now (output .exit)) ≡ takenOf self (arrived segment (now («data» .entry)) reading) (now (store .entry)) (now (output .entry)) ⌝ }
-    {
-        let progress = self.progress;
-        let deadline = progress.deadline_monotonic_ms;
-        if late(deadline, reading) {
-            return self.too_late(reading, store);
-        }
-        self.settle(segment, data, reading, store, output)
-    }
-
+    // The one function that writes to the slots; what a segment does is found out before, over the rest of the record.
     pub fn receive(
-        self,
+        mut self,
         peer: MobileIdentity,
         protocol: HigherLayerProtocol,
         segment: Segment,
@@ -698,8 +330,8 @@ impl Receiver {
         let terms = self.terms;
         let progress = self.progress;
         let held = self.held;
-        let slot = self.slots[0];
-        let first = slot.kind;
+        let zeroth = self.slots[0];
+        let first = zeroth.kind;
         let bad = impossible(
             terms.maximum_message_octets,
             progress,
@@ -720,7 +352,47 @@ impl Receiver {
                 answer: ReceiveAnswer::Refused(e),
                 receiver: self,
             },
-            Check::Passed => self.take(segment, data, monotonic_ms, store, output),
+            Check::Passed => {
+                let at = segment.sequence_number as usize;
+                let slot = self.slots[at];
+                let old = slot.kind;
+                let octets = wide(self.lengths[at]);
+                let turn = take(
+                    self,
+                    old,
+                    octets,
+                    segment,
+                    data,
+                    monotonic_ms,
+                    store,
+                    output,
+                );
+                let answer = turn.answer;
+                let next = turn.progress;
+                let marks = turn.held;
+                let after = turn.slots;
+                self.progress = next;
+                self.held = marks;
+                match after {
+                    Slots::Unchanged => Receive {
+                        answer,
+                        receiver: self,
+                    },
+                    Slots::Holding => {
+                        let kind = segment.kind;
+                        self.lengths[at] = data.len() as u16;
+                        self.slots[at] = Slot { kind };
+                        Receive {
+                            answer,
+                            receiver: self,
+                        }
+                    }
+                    Slots::Emptied => {
+                        let receiver = emptied(terms, next);
+                        Receive { answer, receiver }
+                    }
+                }
+            }
         }
     }
 }

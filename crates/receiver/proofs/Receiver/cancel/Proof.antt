@@ -1,11 +1,12 @@
 -- `Receiver::cancel` meets its contract: refused with nothing changed, or closed with the store wiped. Assumes nothing.
 use Rattle.receiver.proofs.Calling.{cancel-passed, cancel-refused, impossible-is}
-use Rattle.receiver.specs.Steps.{checkSays, closedAs}
+use Rattle.receiver.specs.Steps.{checkSays, closedAs, emptiedAs}
+use Rattle.receiver.specs.declared.Progress.{Progress}
 use Rattle.receiver.specs.declared.replies.Standing.{Standing}
-use borrow.Author.Needs.{needs}
 use denote.Ref.{now}
 use mathlib.Core.Path.{_∙_, ap, sym}
 use Rattle.receiver.specs.declared.ReceiverState.the-variants as state
+use borrow.Author.Needs.{needs}
 use Rattle.receiver.proofs.Receiver.cancel.Statement.{statement}
 use Rattle.receiver.proofs.Receiver.cancel.Tie as tie
 
@@ -30,8 +31,11 @@ wipe-requires c κs = search needs
 standing-of-requires : tie.Need-standing-of-requires
 standing-of-requires c κs = search needs
 
-closed-requires : tie.Need-closed-requires
-closed-requires c κs = search needs
+closed-progress-requires : tie.Need-closed-progress-requires
+closed-progress-requires c κs = search needs
+
+emptied-requires : tie.Need-emptied-requires
+emptied-requires c κs = search needs
 
 returns : tie.Need-returns
 returns c =
@@ -43,8 +47,8 @@ same-length c = search needs
 
 returns-2 : tie.Need-returns-2
 returns-2 c =
-    let x = c .before .before .before .before .before .before .before .before .before .before .before .before .before .before .before .before .before .args in
-    cancel-passed (x .t1) (now (x .store)) (x .monotonic-ms) (c .before .before .before .before .before .before .before .before .before .impossible .result) (impossible-is (x .t1) (c .before .before .before .before .before .before .before .before .before .impossible .result) (c .before .before .before .before .before .before .before .before .before .impossible .ensures)) (c .closed .result) _ (c .closed .ensures ∙ ap (λ (y : Standing). closedAs (x .t1 .terms) y state.Canceled (x .monotonic-ms)) (c .before .standing-of .ensures)) (c .before .before .before .before .wipe .ensures) (ap checkSays (sym (c .before .before .before .before .before .before .enum-told .given .1)) ∙ c .before .before .before .before .before .before .before .before .cancel-check .ensures)
+    let x = c .before .before .before .before .before .before .before .before .before .before .before .before .before .before .before .before .before .before .args in
+    cancel-passed (x .t1) (now (x .store)) (x .monotonic-ms) (c .before .before .before .before .before .before .before .before .before .before .impossible .result) (impossible-is (x .t1) (c .before .before .before .before .before .before .before .before .before .before .impossible .result) (c .before .before .before .before .before .before .before .before .before .before .impossible .ensures)) (c .emptied .result) _ (c .emptied .ensures ∙ ap (λ (p : Progress). emptiedAs (x .t1 .terms) p) (c .before .closed-progress .ensures) ∙ ap (λ (y : Standing). closedAs (x .t1 .terms) y state.Canceled (x .monotonic-ms)) (c .before .before .standing-of .ensures)) (c .before .before .before .before .before .wipe .ensures) (ap checkSays (sym (c .before .before .before .before .before .before .before .enum-told .given .1)) ∙ c .before .before .before .before .before .before .before .before .before .cancel-check .ensures)
 
 pub cancel-spec : {M : Type 1} → statement M
 cancel-spec =
@@ -57,7 +61,8 @@ cancel-spec =
     enum-told
     wipe-requires
     standing-of-requires
-    closed-requires
+    closed-progress-requires
+    emptied-requires
     returns
     same-length
     returns-2)

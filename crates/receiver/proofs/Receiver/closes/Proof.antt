@@ -7,7 +7,7 @@ timed-requires : tie.Need-timed-requires
 timed-requires c κs = search needs
 
 returns : tie.Need-returns
-returns c = rw (c .before .before .before .before .timed .ensures)
+returns c = λ _ _. rw (c .timed .ensures)
 
 pub closes-spec : {M : Type 1} → statement M
 closes-spec = tie.close (tie.spec timed-requires returns)

@@ -1,9 +1,9 @@
 -- `Receiver::fire` meets its contract: not due, expired, or an answer that asks for what is missing. Assumes nothing.
 use Rattle.receiver.specs.Answers.{answered}
 use Rattle.receiver.specs.Record.{with}
-use Rattle.receiver.specs.Steps.{closedAs, replyOf}
+use Rattle.receiver.specs.Steps.{closedAs, emptiedAs, replyOf}
+use Rattle.receiver.specs.declared.Progress.{Progress}
 use Rattle.receiver.specs.declared.replies.Standing.{Standing}
-use borrow.Author.Needs.{needs}
 use borrow.Author.Tests.{not-false, not-true}
 use denote.Ref.{now}
 use mathlib.Core.Bool.{true}
@@ -12,6 +12,7 @@ use mathlib.Core.Option.{none}
 use mathlib.Core.Path.{_∙_, ap, sym}
 use Rattle.response.specs.declared.Status.the-variants as status
 use Rattle.receiver.specs.declared.ReceiverState.the-variants as state
+use borrow.Author.Needs.{needs}
 use Rattle.receiver.proofs.Receiver.fire.Statement.{statement}
 use Rattle.receiver.proofs.Receiver.fire.Tie as tie
 
@@ -22,7 +23,7 @@ timed-requires : tie.Need-timed-requires
 timed-requires c κs = search needs
 
 returns : tie.Need-returns
-returns c = rw (sym (c .before .before .before .before .before .before .due .ensures) ∙ not-true _ (c .before .before .before .before .before .if1 .taken), c .before .before .before .before .timed .ensures)
+returns c = rw (sym (c .before .before .due .ensures) ∙ not-true _ (c .before .if1 .taken), c .timed .ensures)
 
 standing-of-requires : tie.Need-standing-of-requires
 standing-of-requires c κs = search needs
@@ -33,8 +34,8 @@ prohibited-requires c κs = search needs
 wipe-requires : tie.Need-wipe-requires
 wipe-requires c κs = search needs
 
-closed-requires : tie.Need-closed-requires
-closed-requires c κs = search needs
+closed-progress-requires : tie.Need-closed-progress-requires
+closed-progress-requires c κs = search needs
 
 same-length : tie.Need-same-length
 same-length c = search needs
@@ -42,10 +43,10 @@ same-length c = search needs
 returns-2 : tie.Need-returns-2
 returns-2 c =
     let x = c .before .before .before .before .before .before .before .before .before .before .before .before .before .before .before .args in
-    rw (sym (c .before .before .before .before .before .before .before .before .before .before .before .due .ensures) ∙ not-false _ (c .before .before .before .before .before .before .before .before .before .before .if1 .left), sym (c .before .before .before .before .before .before .prohibited .ensures) ∙ c .before .before .before .before .before .if2 .taken)
+    rw (sym (c .before .before .before .before .before .before .before .before .before .before .due .ensures) ∙ not-false _ (c .before .before .before .before .before .before .before .before .before .if1 .left), sym (c .before .before .before .before .before .before .prohibited .ensures) ∙ c .before .before .before .before .before .if2 .taken)
     (λ i. record {
       answer = answered none none;
-      receiver = (c .closed .ensures ∙ ap (λ (y : Standing). closedAs (x .self .terms) y state.Expired (x .reading)) (c .before .before .before .before .before .before .before .before .standing-of .ensures)) i;
+      receiver = (ap (λ (p : Progress). emptiedAs (x .self .terms) p) (c .closed-progress .ensures) ∙ ap (λ (y : Standing). closedAs (x .self .terms) y state.Expired (x .reading)) (c .before .before .before .before .before .before .before .before .standing-of .ensures)) i;
       store = c .before .before .before .wipe .ensures i;
       output = [];
     })
@@ -58,11 +59,11 @@ timed-requires-2 c κs = search needs
 
 returns-3 : tie.Need-returns-3
 returns-3 c =
-    let x = c .before .before .before .before .before .before .before .before .before .before .before .before .before .before .before .before .args in
-    rw (sym (c .before .before .before .before .before .before .before .before .before .before .before .before .due .ensures) ∙ not-false _ (c .before .before .before .before .before .before .before .before .before .before .before .if1 .left), sym (c .before .before .before .before .before .before .before .prohibited .ensures) ∙ c .before .before .before .before .before .before .if2 .left)
+    let x = c .before .before .before .before .before .before .before .before .before .before .before .before .args in
+    rw (sym (c .before .before .before .before .before .before .before .due .ensures) ∙ not-false _ (c .before .before .before .before .before .before .if1 .left), sym (c .before .before .before .prohibited .ensures) ∙ c .before .before .if2 .left)
     (λ i. record {
-      answer = answered ((c .before .before .before .before .before .respond .ensures ∙ ap (λ (y : Standing). replyOf (x .self .terms .«transaction_id») y status.InterSegmentTimeout true) (c .before .before .before .before .before .before .before .before .before .standing-of .ensures)) i) none;
-      receiver = with (x .self) (c .before .before .before .before .timed2 .ensures i);
+      answer = answered ((c .before .respond .ensures ∙ ap (λ (y : Standing). replyOf (x .self .terms .«transaction_id») y status.InterSegmentTimeout true) (c .before .before .before .before .before .standing-of .ensures)) i) none;
+      receiver = with (x .self) (c .timed2 .ensures i);
       store = now (x .store);
       output = [];
     })
@@ -77,7 +78,7 @@ fire-spec =
     standing-of-requires
     prohibited-requires
     wipe-requires
-    closed-requires
+    closed-progress-requires
     same-length
     returns-2
     respond-requires

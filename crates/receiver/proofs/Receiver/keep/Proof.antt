@@ -1,8 +1,7 @@
 -- `Receiver::keep` meets its contract: what it builds is the record with the segment held, and the response is that of this record. Assumes nothing.
 use Rattle.receiver.proofs.Holding.{kept-as}
-use borrow.Author.Needs.{needs}
 use denote.Ref.{now}
-use native.Mathlib.Omega.{arith}
+use borrow.Author.Needs.{needs}
 use Rattle.receiver.proofs.Receiver.keep.Statement.{statement}
 use Rattle.receiver.proofs.Receiver.keep.Tie as tie
 
@@ -15,8 +14,8 @@ mul-put c = search needs
 put-requires : tie.Need-put-requires
 put-requires c κs = search needs
 
-add-t20 : tie.Need-add-t20
-add-t20 c = search needs
+add-t21 : tie.Need-add-t21
+add-t21 c = search needs
 
 kept-progress-requires : tie.Need-kept-progress-requires
 kept-progress-requires c κs = search needs
@@ -30,19 +29,13 @@ standing-of-requires c κs = search needs
 required-response-requires : tie.Need-required-response-requires
 required-response-requires c κs = search needs
 
-cast-hold : tie.Need-cast-hold
-cast-hold c = omega (arith, c .before .before .before .before .before .before .before .before .before .before .before .before .before .pre .few)
-
-hold-requires : tie.Need-hold-requires
-hold-requires c κs = search needs
-
 same-length : tie.Need-same-length
 same-length c = search needs
 
 returns : tie.Need-returns
 returns c =
-    let x = c .before .before .before .before .before .before .before .before .before .before .before .before .before .before .args in
-    kept-as (x .self) (x .segment) (now (x .«data»)) (x .reading) (now (x .store)) (c .before .before .before .before .kept-progress .result) (c .before .before .before .with .result) (c .before .before .standing-of .result) (c .before .required-response .result) (c .hold .result) _ (c .before .before .before .before .kept-progress .ensures) (c .before .before .before .with .ensures) (c .before .before .standing-of .ensures) (c .before .required-response .ensures) (c .hold .ensures) (c .before .before .before .before .before .before .before .put .ensures)
+    let x = c .before .before .before .before .before .before .before .before .before .before .before .before .before .args in
+    kept-as (x .self) (x .segment) (now (x .«data»)) (x .reading) (now (x .store)) (c .before .before .before .kept-progress .result) (c .before .before .with .result) (c .before .standing-of .result) (c .required-response .result) _ (c .before .before .before .kept-progress .ensures) (c .before .before .with .ensures) (c .before .standing-of .ensures) (c .required-response .ensures) (c .before .before .before .before .before .before .put .ensures)
 
 pub keep-spec : {M : Type 1} → statement M
 keep-spec =
@@ -51,12 +44,10 @@ keep-spec =
     cast-put
     mul-put
     put-requires
-    add-t20
+    add-t21
     kept-progress-requires
     with-requires
     standing-of-requires
     required-response-requires
-    cast-hold
-    hold-requires
     same-length
     returns)

@@ -21,8 +21,8 @@ timed-requires c κs = search needs
 
 returns : tie.Need-returns
 returns c =
-    let x = c .before .before .before .before .before .before .before .before .before .before .before .before .args in
-    repeated-as (x .self) (x .segment) (x .reading) (c .before .before .before .before .before .before .before .before .standing-of .result) (c .before .before .before .before .before .before .before .repeat-status .result) (c .before .before .before .before .before .repeat-deadline .result) (c .before .before .before .before .timed .result) (c .before .before .before .before .before .before .required-response .result) (c .before .before .before .before .before .before .before .before .standing-of .ensures) (c .before .before .before .before .before .before .before .repeat-status .ensures) (c .before .before .before .before .before .repeat-deadline .ensures) (c .before .before .before .before .timed .ensures) (c .before .before .before .before .before .before .required-response .ensures)
+    let x = c .before .before .before .before .before .before .before .before .args in
+    repeated-as (x .self) (x .segment) (x .reading) (c .before .before .before .before .standing-of .result) (c .before .before .before .repeat-status .result) (c .before .repeat-deadline .result) (c .timed .result) (c .before .before .required-response .result) (c .before .before .before .before .standing-of .ensures) (c .before .before .before .repeat-status .ensures) (c .before .repeat-deadline .ensures) (c .timed .ensures) (c .before .before .required-response .ensures)
 
 pub repeat-spec : {M : Type 1} → statement M
 repeat-spec =

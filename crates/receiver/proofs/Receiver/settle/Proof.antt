@@ -2,15 +2,17 @@
 use Rattle.octets.specs.Octets.{sameOctets}
 use Rattle.receiver.proofs.Settling.{outcome-is, placeOf, settled-closes, settled-fails, settled-finishes, settled-keeps, settled-repeats}
 use Rattle.receiver.specs.Receive.{Arrival, keeps, sameKind, slotRules}
-use Rattle.receiver.specs.Record.{fullWith, kindAt, part}
-use Rattle.receiver.specs.Steps.{arrived, decided}
+use Rattle.receiver.specs.Record.{fullWith, part}
+use Rattle.receiver.specs.Steps.{arrived, decided, turned}
+use Rattle.receiver.specs.declared.Receive.{Receive}
 use Rattle.receiver.specs.declared.rules.Place.{Place}
+use Rattle.receiver.specs.declared.turns.Turn.{Turn}
 use Rattle.tsar.specs.Rows.{firstOf}
-use borrow.Author.Needs.{needs}
 use denote.Ref.{now}
 use lib.ListN.{length}
-use mathlib.Core.Bool.{Bool, _&&_}
+use mathlib.Core.Bool.{_&&_}
 use mathlib.Core.Path.{_∙_, _≡_, ap, sym}
+use borrow.Author.Needs.{needs}
 use Rattle.receiver.proofs.Receiver.settle.Statement.{statement}
 use Rattle.receiver.proofs.Receiver.settle.Tie as tie
 
@@ -18,34 +20,30 @@ use Rattle.receiver.proofs.Receiver.settle.Tie as tie
 abbrev arrival : (c : tie.Start) → Arrival
 arrival c = let x = c .args in arrived (x .segment) (now (x .«data»)) (x .reading)
 
+-- what a turn leaves
+abbrev leaving : (c : tie.Start) → Turn → Receive
+leaving c turn = let x = c .args in turned (x .self) (x .segment) (length (now (x .«data»))) turn
+
 -- what the code found out
 abbrev found : (c : tie.After-decide) → Place
-found c = record { held = c .before .before .before .before .before .before .before .before .before .has .result; octets = c .before .before .before .before .before .before .wide .result; same = c .before .before .before .before .same-slot .result; clear = c .before .before .before .none-past .result; full = c .before .before .full-with .result }
+found c = record { held = c .before .before .before .before .before .before .before .has .result; octets = c .before .before .before .before .before .before .before .before .before .before .before .before .before .before .args .octets; same = c .before .before .before .before .same-slot .result; clear = c .before .before .before .none-past .result; full = c .before .before .full-with .result }
 
-found-said : (c : tie.After-decide) → found c ≡ placeOf (c .before .before .before .before .before .before .before .before .before .before .before .before .before .before .before .before .before .args .t1) (arrival (c .before .before .before .before .before .before .before .before .before .before .before .before .before .before .before .before .before)) (now (c .before .before .before .before .before .before .before .before .before .before .before .before .before .before .before .before .before .args .store))
+found-said : (c : tie.After-decide) → found c ≡ placeOf (c .before .before .before .before .before .before .before .before .before .before .before .before .before .before .args .self) (arrival (c .before .before .before .before .before .before .before .before .before .before .before .before .before .before)) (now (c .before .before .before .before .before .before .before .before .before .before .before .before .before .before .args .store))
 found-said c =
-    let x = c .before .before .before .before .before .before .before .before .before .before .before .before .before .before .before .before .before .args in
+    let x = c .before .before .before .before .before .before .before .before .before .before .before .before .before .before .args in
+    let slot = c .before .before .before .before .before .before .before .before .before .before .before .before .before .before .pre .1 in
     let s = x .segment .«sequence_number» in
-    let same = sameKind (kindAt (x .t1) s) (x .segment .kind) && sameOctets (part (now (x .store)) s (length (now (x .«data»)))) (now (x .«data»)) in
+    let same-data = sameOctets (part (now (x .store)) s (length (now (x .«data»)))) (now (x .«data»)) in
     λ i. record {
-      held = c .before .before .before .before .before .before .before .before .before .has .ensures i;
-      octets = c .before .before .before .before .before .before .wide .ensures .0 i;
-      same = (c .before .before .before .before .same-slot .ensures ∙ ap (λ (h : Bool). h && same) (c .before .before .before .before .before .before .before .before .before .has .ensures)) i;
+      held = c .before .before .before .before .before .before .before .has .ensures i;
+      octets = slot .length-is i;
+      same = (c .before .before .before .before .same-slot .ensures ∙ (λ j. c .before .before .before .before .before .before .before .has .ensures j && (sameKind (slot .kind-is j) (x .segment .kind) && same-data))) i;
       clear = c .before .before .before .none-past .ensures i;
-      full = (c .before .before .full-with .ensures ∙ ap (fullWith (x .t1 .held) s) (c .before .before .before .before .before .before .before .before .end-of .ensures)) i;
+      full = (c .before .before .full-with .ensures ∙ ap (fullWith (x .self .held) s) (c .before .before .before .before .before .before .end-of .ensures)) i;
     }
 
-outcome-said : (c : tie.After-decide) → decided (c .decide .result) ≡ firstOf (slotRules (c .before .before .before .before .before .before .before .before .before .before .before .before .before .before .before .before .before .args .t1) (arrival (c .before .before .before .before .before .before .before .before .before .before .before .before .before .before .before .before .before)) (now (c .before .before .before .before .before .before .before .before .before .before .before .before .before .before .before .before .before .args .store))) keeps
-outcome-said c = outcome-is (c .before .before .before .before .before .before .before .before .before .before .before .before .before .before .before .before .before .args .t1) (arrival (c .before .before .before .before .before .before .before .before .before .before .before .before .before .before .before .before .before)) (now (c .before .before .before .before .before .before .before .before .before .before .before .before .before .before .before .before .before .args .store)) (found c) (c .decide .result) (found-said c) (c .decide .ensures)
-
-cast-at : tie.Need-cast-at
-cast-at c = search needs
-
-mul-slot : tie.Need-mul-slot
-mul-slot c = search needs
-
-element-copy-out-slot : tie.Need-element-copy-out-slot
-element-copy-out-slot c = search needs
+outcome-said : (c : tie.After-decide) → decided (c .decide .result) ≡ firstOf (slotRules (c .before .before .before .before .before .before .before .before .before .before .before .before .before .before .args .self) (arrival (c .before .before .before .before .before .before .before .before .before .before .before .before .before .before)) (now (c .before .before .before .before .before .before .before .before .before .before .before .before .before .before .args .store))) keeps
+outcome-said c = outcome-is (c .before .before .before .before .before .before .before .before .before .before .before .before .before .before .args .self) (arrival (c .before .before .before .before .before .before .before .before .before .before .before .before .before .before)) (now (c .before .before .before .before .before .before .before .before .before .before .before .before .before .before .args .store)) (found c) (c .decide .result) (found-said c) (c .decide .ensures)
 
 has-requires : tie.Need-has-requires
 has-requires c κs = search needs
@@ -53,14 +51,8 @@ has-requires c κs = search needs
 end-of-requires : tie.Need-end-of-requires
 end-of-requires c κs = search needs
 
-mul-wide : tie.Need-mul-wide
-mul-wide c = search needs
-
-element-copy-out-wide : tie.Need-element-copy-out-wide
-element-copy-out-wide c = search needs
-
-wide-requires : tie.Need-wide-requires
-wide-requires c κs = search needs
+cast-same-slot : tie.Need-cast-same-slot
+cast-same-slot c = search needs
 
 mul-same-slot : tie.Need-mul-same-slot
 mul-same-slot c = search needs
@@ -74,8 +66,8 @@ none-past-requires c κs = search needs
 full-with-requires : tie.Need-full-with-requires
 full-with-requires c κs = search needs
 
-add-t35 : tie.Need-add-t35
-add-t35 c = search needs
+add-t29 : tie.Need-add-t29
+add-t29 c = search needs
 
 decide-requires : tie.Need-decide-requires
 decide-requires c κs = search needs
@@ -118,32 +110,32 @@ same-length c = search needs
 
 returns : tie.Need-returns
 returns c =
-    let x = c .before .before .before .before .before .before .before .before .before .before .before .before .before .before .before .before .before .before .before .before .before .before .before .before .before .args in
-    settled-fails (x .t1) (x .segment) (now (x .«data»)) (x .reading) (now (x .store)) (now (x .output)) (c .before .before .fail .result) (c .before .before .before .before .before .before .stage .given .0 .0) (c .before .before .before .before .before .before .stage .given .0 .1 .0) (c .before .before .before .before .staged .result) _ (ap decided (sym (c .before .before .before .before .before .before .stage .given .1)) ∙ outcome-said (c .before .before .before .before .before .before .before .before)) (c .before .before .before .before .staged .ensures) (c .before .before .fail .ensures)
+    let x = c .before .before .before .before .before .before .before .before .before .before .before .before .before .before .before .before .before .before .before .before .before .before .args in
+    settled-fails (x .self) (x .segment) (now (x .«data»)) (x .reading) (now (x .store)) (now (x .output)) (leaving (c .before .before .before .before .before .before .before .before .before .before .before .before .before .before .before .before .before .before .before .before .before .before) (c .before .before .fail .result)) (c .before .before .before .before .before .before .stage .given .0 .0) (c .before .before .before .before .before .before .stage .given .0 .1 .0) (c .before .before .before .before .staged .result) _ (ap decided (sym (c .before .before .before .before .before .before .stage .given .1)) ∙ outcome-said (c .before .before .before .before .before .before .before .before)) (c .before .before .before .before .staged .ensures) (c .before .before .fail .ensures (x .segment) (length (now (x .«data»))))
 
 same-length-2 : tie.Need-same-length-2
 same-length-2 c = search needs
 
 returns-2 : tie.Need-returns-2
 returns-2 c =
-    let x = c .before .before .before .before .before .before .before .before .before .before .before .before .before .before .before .before .before .before .before .before .args in
-    settled-repeats (x .t1) (x .segment) (now (x .«data»)) (x .reading) (now (x .store)) (now (x .output)) (c .repeat .result) (ap decided (sym (c .before .enum-told .given .1)) ∙ outcome-said (c .before .before .before)) (c .repeat .ensures)
+    let x = c .before .before .before .before .before .before .before .before .before .before .before .before .before .before .before .before .before .args in
+    settled-repeats (x .self) (x .segment) (now (x .«data»)) (x .reading) (now (x .store)) (now (x .output)) (leaving (c .before .before .before .before .before .before .before .before .before .before .before .before .before .before .before .before .before) (c .repeat .result)) (ap decided (sym (c .before .enum-told .given .1)) ∙ outcome-said (c .before .before .before)) (c .repeat .ensures (x .segment) (length (now (x .«data»))))
 
 same-length-3 : tie.Need-same-length-3
 same-length-3 c = search needs
 
 returns-3 : tie.Need-returns-3
 returns-3 c =
-    let x = c .before .before .before .before .before .before .before .before .before .before .before .before .before .before .before .before .before .before .before .before .args in
-    settled-closes (x .t1) (x .segment) (now (x .«data»)) (x .reading) (now (x .store)) (now (x .output)) (c .closes .result) (ap decided (sym (c .before .enum-told2 .given .1)) ∙ outcome-said (c .before .before .before)) (c .closes .ensures)
+    let x = c .before .before .before .before .before .before .before .before .before .before .before .before .before .before .before .before .before .args in
+    settled-closes (x .self) (x .segment) (now (x .«data»)) (x .reading) (now (x .store)) (now (x .output)) (leaving (c .before .before .before .before .before .before .before .before .before .before .before .before .before .before .before .before .before) (c .closes .result)) (ap decided (sym (c .before .enum-told2 .given .1)) ∙ outcome-said (c .before .before .before)) (c .closes .ensures (x .segment) (length (now (x .«data»))))
 
 same-length-4 : tie.Need-same-length-4
 same-length-4 c = search needs
 
 returns-4 : tie.Need-returns-4
 returns-4 c =
-    let x = c .before .before .before .before .before .before .before .before .before .before .before .before .before .before .before .before .before .before .before .before .before .before .before .args in
-    settled-keeps (x .t1) (x .segment) (now (x .«data»)) (x .reading) (now (x .store)) (now (x .output)) (c .before .before .keep .result) _ (ap decided (sym (c .before .before .before .before .enum-told3 .given .1)) ∙ outcome-said (c .before .before .before .before .before .before)) (c .before .before .keep .ensures)
+    let x = c .before .before .before .before .before .before .before .before .before .before .before .before .before .before .before .before .before .before .before .before .args in
+    settled-keeps (x .self) (x .segment) (now (x .«data»)) (x .reading) (now (x .store)) (now (x .output)) (leaving (c .before .before .before .before .before .before .before .before .before .before .before .before .before .before .before .before .before .before .before .before) (c .before .before .keep .result)) _ (ap decided (sym (c .before .before .before .before .enum-told3 .given .1)) ∙ outcome-said (c .before .before .before .before .before .before)) (c .before .before .keep .ensures)
 
 same-length-5 : tie.Need-same-length-5
 same-length-5 c = search needs
@@ -153,26 +145,21 @@ same-length-6 c = search needs
 
 returns-5 : tie.Need-returns-5
 returns-5 c =
-    let x = c .before .before .before .before .before .before .before .before .before .before .before .before .before .before .before .before .before .before .before .before .before .before .before .before .before .before .args in
-    settled-finishes (x .t1) (x .segment) (now (x .«data»)) (x .reading) (now (x .store)) (now (x .output)) (c .before .before .before .before .finish .result) _ _ (ap decided (sym (c .before .before .before .before .before .before .before .enum-told4 .given .1)) ∙ outcome-said (c .before .before .before .before .before .before .before .before .before)) (c .before .before .before .before .finish .ensures)
+    let x = c .before .before .before .before .before .before .before .before .before .before .before .before .before .before .before .before .before .before .before .before .before .before .before .args in
+    settled-finishes (x .self) (x .segment) (now (x .«data»)) (x .reading) (now (x .store)) (now (x .output)) (leaving (c .before .before .before .before .before .before .before .before .before .before .before .before .before .before .before .before .before .before .before .before .before .before .before) (c .before .before .before .before .finish .result)) _ _ (ap decided (sym (c .before .before .before .before .before .before .before .enum-told4 .given .1)) ∙ outcome-said (c .before .before .before .before .before .before .before .before .before)) (c .before .before .before .before .finish .ensures)
 
 pub settle-spec : {M : Type 1} → statement M
 settle-spec =
     tie.close
     (tie.spec
-    cast-at
-    mul-slot
-    element-copy-out-slot
     has-requires
     end-of-requires
-    mul-wide
-    element-copy-out-wide
-    wide-requires
+    cast-same-slot
     mul-same-slot
     same-slot-requires
     none-past-requires
     full-with-requires
-    add-t35
+    add-t29
     decide-requires
     enum-known-stage
     staged-requires

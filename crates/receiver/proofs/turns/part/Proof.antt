@@ -4,8 +4,8 @@ use Rattle.receiver.proofs.JoinedData.{piece-is}
 use borrow.Author.Needs.{needs}
 use denote.Ref.{now}
 use mathlib.Core.Path.{ap}
-use Rattle.receiver.proofs.machine.part.Statement.{statement}
-use Rattle.receiver.proofs.machine.part.Tie as tie
+use Rattle.receiver.proofs.turns.part.Statement.{statement}
+use Rattle.receiver.proofs.turns.part.Tie as tie
 
 smaller-requires : tie.Need-smaller-requires
 smaller-requires c κs = search needs

@@ -1,8 +1,8 @@
 -- `repeat_deadline` meets its contract, by the state. Assumes nothing.
 use borrow.Author.Needs.{needs}
 use mathlib.Core.Path.{_∙_, sym}
-use Rattle.receiver.proofs.machine.repeat_deadline.Statement.{statement}
-use Rattle.receiver.proofs.machine.repeat_deadline.Tie as tie
+use Rattle.receiver.proofs.turns.repeat_deadline.Statement.{statement}
+use Rattle.receiver.proofs.turns.repeat_deadline.Tie as tie
 
 receiving-requires : tie.Need-receiving-requires
 receiving-requires c κs = search needs

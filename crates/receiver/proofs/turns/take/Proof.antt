@@ -1,10 +1,12 @@
--- `Receiver::take` meets its contract: late, or what the slots decide. Assumes nothing.
+-- `take` meets its contract: late, or what the slots decide. Assumes nothing.
 use Rattle.receiver.proofs.Settling.{taken-late, taken-settled}
-use borrow.Author.Needs.{needs}
+use Rattle.receiver.specs.Steps.{turned}
 use denote.Ref.{now}
+use lib.ListN.{length}
 use mathlib.Core.Path.{_∙_, sym}
-use Rattle.receiver.proofs.Receiver.take.Statement.{statement}
-use Rattle.receiver.proofs.Receiver.take.Tie as tie
+use borrow.Author.Needs.{needs}
+use Rattle.receiver.proofs.turns.take.Statement.{statement}
+use Rattle.receiver.proofs.turns.take.Tie as tie
 
 late-requires : tie.Need-late-requires
 late-requires c κs = search needs
@@ -18,7 +20,8 @@ same-length c = search needs
 returns : tie.Need-returns
 returns c =
     let x = c .before .before .before .before .before .before .before .before .before .before .args in
-    taken-late (x .self) (x .segment) (now (x .«data»)) (x .reading) (now (x .store)) (now (x .output)) (c .before .before .too-late .result) _ (sym (c .before .before .before .before .before .late .ensures) ∙ c .before .before .before .before .if1 .taken) (c .before .before .too-late .ensures)
+    let n = length (now (x .«data»)) in
+    taken-late (x .receiver) (x .segment) (now (x .«data»)) (x .reading) (now (x .store)) (now (x .output)) (turned (x .receiver) (x .segment) n (c .before .before .too-late .result)) _ (sym (c .before .before .before .before .before .late .ensures) ∙ c .before .before .before .before .if1 .taken) (c .before .before .too-late .ensures (x .segment) n)
 
 settle-requires : tie.Need-settle-requires
 settle-requires c κs = search needs
@@ -32,7 +35,7 @@ same-length-3 c = search needs
 returns-2 : tie.Need-returns-2
 returns-2 c =
     let x = c .before .before .before .before .before .before .before .before .before .before .before .before .before .args in
-    c .before .before .before .before .settle .ensures ∙ taken-settled (x .self) (x .segment) (now (x .«data»)) (x .reading) (now (x .store)) (now (x .output)) (sym (c .before .before .before .before .before .before .before .before .late .ensures) ∙ c .before .before .before .before .before .before .before .if1 .left)
+    c .before .before .before .before .settle .ensures ∙ taken-settled (x .receiver) (x .segment) (now (x .«data»)) (x .reading) (now (x .store)) (now (x .output)) (sym (c .before .before .before .before .before .before .before .before .late .ensures) ∙ c .before .before .before .before .before .before .before .if1 .left)
 
 pub take-spec : {M : Type 1} → statement M
 take-spec =

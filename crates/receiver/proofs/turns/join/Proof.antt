@@ -11,8 +11,8 @@ use mathlib.Core.Option.{none}
 use mathlib.Core.Path.{_∙_, _≡_, ap, ap₂, sym}
 use native.Mathlib.Numerals.{add-one}
 use native.Mathlib.Omega.{arith}
-use Rattle.receiver.proofs.machine.join.Statement.{statement}
-use Rattle.receiver.proofs.machine.join.Tie as tie
+use Rattle.receiver.proofs.turns.join.Statement.{statement}
+use Rattle.receiver.proofs.turns.join.Tie as tie
 
 abbrev Inv-loop : tie.InvT-loop
 Inv-loop lengths store last output₀ count at₀ t₀ output at t = (t ≤ count) × (count ≤ 256) × (at ≤ 65535 * t) × (at ≡ length (joined lengths store t)) × (output ≡ sets output₀ 0 (joined lengths store t))

@@ -1,7 +1,7 @@
--- `closed` meets its contract: nothing is held, and what stays is the standing. Assumes nothing.
+-- `emptied` meets its contract: nothing is held, and no slot records anything. Assumes nothing.
 use borrow.Author.Needs.{needs}
-use Rattle.receiver.proofs.machine.closed.Statement.{statement}
-use Rattle.receiver.proofs.machine.closed.Tie as tie
+use Rattle.receiver.proofs.machine.emptied.Statement.{statement}
+use Rattle.receiver.proofs.machine.emptied.Tie as tie
 
 none-requires : tie.Need-none-requires
 none-requires c κs = search needs
@@ -15,6 +15,6 @@ empty-slots-requires c κs = search needs
 returns : tie.Need-returns
 returns c = rw (c .empty-slots .ensures, c .before .empty-lengths .ensures, c .before .before .none .ensures)
 
-pub closed-spec : {M : Type 1} → statement M
-closed-spec =
+pub emptied-spec : {M : Type 1} → statement M
+emptied-spec =
     tie.close (tie.spec none-requires empty-lengths-requires empty-slots-requires returns)

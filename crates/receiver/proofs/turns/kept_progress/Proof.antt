@@ -1,7 +1,7 @@
 -- `kept_progress` meets its contract, field by field. Assumes nothing.
 use borrow.Author.Needs.{needs}
-use Rattle.receiver.proofs.machine.kept_progress.Statement.{statement}
-use Rattle.receiver.proofs.machine.kept_progress.Tie as tie
+use Rattle.receiver.proofs.turns.kept_progress.Statement.{statement}
+use Rattle.receiver.proofs.turns.kept_progress.Tie as tie
 
 services-of-requires : tie.Need-services-of-requires
 services-of-requires c κs = search needs

@@ -6,8 +6,8 @@ use borrow.Author.Tests.{not-false, not-true}
 use denote.Ref.{now}
 use mathlib.Core.List.{List}
 use mathlib.Core.Path.{_∙_, ap, sym}
-use Rattle.receiver.proofs.machine.same_slot.Statement.{statement}
-use Rattle.receiver.proofs.machine.same_slot.Tie as tie
+use Rattle.receiver.proofs.turns.same_slot.Statement.{statement}
+use Rattle.receiver.proofs.turns.same_slot.Tie as tie
 
 returns : tie.Need-returns
 returns c = rw (not-true (c .before .before .before .args .held) (c .if1 .taken))
