@@ -120,7 +120,7 @@ fn put_message(out: &mut [u8], place: Place, message: Message, output: &[u8]) ->
 }
 
 // The state's number, and the status with Failed.
-fn put_condition(out: &mut [u8], place: Place, state: ReceiverState) -> Place {
+pub fn put_condition(out: &mut [u8], place: Place, state: ReceiverState) -> Place {
     match state {
         ReceiverState::AwaitingBegin => place.be8(out, 0).be8(out, 0),
         ReceiverState::Receiving => place.be8(out, 1).be8(out, 0),
@@ -131,7 +131,7 @@ fn put_condition(out: &mut [u8], place: Place, state: ReceiverState) -> Place {
     }
 }
 
-fn put_deadline(out: &mut [u8], place: Place, deadline: Deadline) -> Place {
+pub fn put_deadline(out: &mut [u8], place: Place, deadline: Deadline) -> Place {
     match deadline {
         Deadline::Off => place.be8(out, 0).be64(out, 0),
         Deadline::At(d) => place.be8(out, 1).be64(out, d),

@@ -1,0 +1,11 @@
+pub mod Decimal
+pub mod DecimalLaws
+pub mod FormLaws
+pub mod Forms
+pub mod Grammar
+pub mod Hexadecimal
+pub mod HexadecimalLaws
+pub mod LineLaws
+pub mod Lines
+pub mod Text
+pub mod TextLaws
