@@ -1,0 +1,544 @@
+/*
+ * catkhize.h: the TSAR core of the bench cell, for C99 and C++.
+ *
+ * Every call takes numbers and lent octets (a pointer and the number of octets after it) and gives a
+ * number of 32 bits. The library keeps nothing between calls, has no heap, calls nothing and may be
+ * used from several threads: a machine (receiver or sender) lies whole in a record buffer of the
+ * caller's, and calls on different records do not touch one another.
+ *
+ * Rules for the caller. The library cannot check them.
+ *  - No pointer is NULL, also where its number of octets is 0.
+ *  - The buffers of one call do not overlap: record, store, output, plan, answer and whatever is read.
+ *  - Nothing else writes to a call's buffers while it runs.
+ *  - The calls keep whole records on the stack. CATKHIZE_STACK_OCTETS says how much to set aside.
+ *
+ * What a call changes. Record, plan and answer buffers may be longer than their layout: only the first
+ * octets are read or written. A call writes its answer only where it gives CATKHIZE_DONE
+ * (catkhize_receiver_train also where document 01 refuses). A call that is refused changes nothing,
+ * except in the late cases that catkhize_receiver_receive, catkhize_receiver_train,
+ * catkhize_sender_submitted, catkhize_sender_accepted, catkhize_sender_lower_failed and
+ * catkhize_sender_receive_response name below: the record then spells what the machine became.
+ *
+ * 'Document 01' is docs/01-scope.md. n/m is its refusal n with field m.
+ */
+#ifndef CATKHIZE_H
+#define CATKHIZE_H
+
+#include <stddef.h>
+#include <stdint.h>
+
+#ifdef __cplusplus
+extern "C" {
+#endif
+
+/* ---- The number that a call gives ---- */
+
+#define CATKHIZE_DONE 0u
+/* No refusal either: nothing to plan, no such segment, nothing offered. The answer is as it was. */
+#define CATKHIZE_NOTHING 1u
+
+/* Refusal n/m of document 01; m is 0 where the paper has none. */
+#define CATKHIZE_REFUSAL(n, m) (256u * (n) + (m))
+#define CATKHIZE_IS_REFUSAL(given) ((given) >= 256u)
+#define CATKHIZE_REFUSAL_N(given) ((given) / 256u)
+#define CATKHIZE_REFUSAL_M(given) ((given) % 256u)
+
+/* The codec's refusals. */
+#define CATKHIZE_VERSION CATKHIZE_REFUSAL(1, 0)
+#define CATKHIZE_TRUNCATED CATKHIZE_REFUSAL(2, 0)
+#define CATKHIZE_PROTOCOL CATKHIZE_REFUSAL(3, 0)
+#define CATKHIZE_MESSAGE_TYPE CATKHIZE_REFUSAL(4, 0)
+#define CATKHIZE_UNSUPPORTED_RESPONSE CATKHIZE_REFUSAL(5, 0)
+#define CATKHIZE_FIELD_TRANSACTION_ID CATKHIZE_REFUSAL(6, 1)
+#define CATKHIZE_FIELD_SEGMENT_DATA_LENGTH CATKHIZE_REFUSAL(6, 2)
+#define CATKHIZE_FIELD_BEGIN_SEQUENCE_NUMBER CATKHIZE_REFUSAL(6, 3)
+#define CATKHIZE_FIELD_MESSAGE_LENGTH CATKHIZE_REFUSAL(6, 4)
+#define CATKHIZE_FIELD_CRC24 CATKHIZE_REFUSAL(6, 5)
+#define CATKHIZE_FIELD_ACKNOWLEDGMENT_MAP_LENGTH CATKHIZE_REFUSAL(6, 6)
+#define CATKHIZE_FIELD_SUPPORT_STATUS CATKHIZE_REFUSAL(6, 7)
+#define CATKHIZE_RESERVED CATKHIZE_REFUSAL(7, 0)
+#define CATKHIZE_DUPLICATE_PARAMETER CATKHIZE_REFUSAL(8, 0)
+/* The planner's and the frozen check's. */
+#define CATKHIZE_PAYLOAD_BUDGET CATKHIZE_REFUSAL(20, 0)
+#define CATKHIZE_HEADER_CAPACITY CATKHIZE_REFUSAL(21, 0)
+#define CATKHIZE_SEGMENT_COUNT CATKHIZE_REFUSAL(22, 0)
+#define CATKHIZE_FROZEN_PLAN CATKHIZE_REFUSAL(23, 0)
+#define CATKHIZE_JOINED_LENGTH CATKHIZE_REFUSAL(24, 0)
+/* The machines'. */
+#define CATKHIZE_IDENTITY CATKHIZE_REFUSAL(30, 0)
+#define CATKHIZE_SERVICE CATKHIZE_REFUSAL(31, 0)
+#define CATKHIZE_TRANSACTION_ID CATKHIZE_REFUSAL(32, 0)
+#define CATKHIZE_CLOCK_REGRESSION CATKHIZE_REFUSAL(33, 0)
+#define CATKHIZE_TIME_OVERFLOW CATKHIZE_REFUSAL(34, 0)
+#define CATKHIZE_UNPARSED_SEGMENT CATKHIZE_REFUSAL(35, 0)
+#define CATKHIZE_BEGIN_REQUIRED CATKHIZE_REFUSAL(36, 0)
+#define CATKHIZE_TIMER_DUE CATKHIZE_REFUSAL(37, 0)
+#define CATKHIZE_CLOSED CATKHIZE_REFUSAL(38, 0)
+#define CATKHIZE_PLAN CATKHIZE_REFUSAL(40, 0)
+#define CATKHIZE_COUNTER_OVERFLOW CATKHIZE_REFUSAL(41, 0)
+#define CATKHIZE_STALE_SUBMISSION CATKHIZE_REFUSAL(42, 0)
+#define CATKHIZE_NOT_SUBMITTED CATKHIZE_REFUSAL(43, 0)
+#define CATKHIZE_RECEIPT_TIME CATKHIZE_REFUSAL(44, 0)
+#define CATKHIZE_PEER CATKHIZE_REFUSAL(45, 0)
+#define CATKHIZE_RESPONSES_PROHIBITED CATKHIZE_REFUSAL(46, 0)
+#define CATKHIZE_UNPARSED_RESPONSE CATKHIZE_REFUSAL(47, 0)
+#define CATKHIZE_UNSUBMITTED_ACKNOWLEDGMENT CATKHIZE_REFUSAL(48, 0)
+#define CATKHIZE_CONTRADICTORY_RECEIPT CATKHIZE_REFUSAL(49, 0)
+/* Of lent buffers and records. */
+#define CATKHIZE_STORE_TOO_SHORT CATKHIZE_REFUSAL(60, 0)
+#define CATKHIZE_OUTPUT_TOO_SHORT CATKHIZE_REFUSAL(61, 0)
+#define CATKHIZE_IMPOSSIBLE_STATE CATKHIZE_REFUSAL(62, 0)
+#define CATKHIZE_TICKETS CATKHIZE_REFUSAL(63, 0)
+/* Of these calls alone, in this order and before any of document 01's; nothing is changed. */
+#define CATKHIZE_BUFFER_TOO_SHORT CATKHIZE_REFUSAL(80, 0) /* a buffer with a layout is shorter than it */
+#define CATKHIZE_BUFFER_SPELLS_NONE CATKHIZE_REFUSAL(81, 0) /* such a buffer that is read spells nothing */
+#define CATKHIZE_NUMBER_NAMES_NONE CATKHIZE_REFUSAL(82, 0) /* window above 5, protocol or failure above 2 */
+
+/* ---- Sizes ---- */
+
+/* A receiver's store: 255 octets for each of 256 sequence numbers. Octets past these are never touched. */
+#define CATKHIZE_STORE_OCTETS 65280u
+/* The longest segment that encode writes. */
+#define CATKHIZE_ENCODING_OCTETS 264u
+/* What a call needs of stack at the most, measured on x86-64 and rounded up. */
+#define CATKHIZE_STACK_OCTETS 131072u
+
+#define CATKHIZE_SEGMENT_OCTETS 15u
+#define CATKHIZE_HEAD_OCTETS 23u
+#define CATKHIZE_HEADS_OCTETS (256u * CATKHIZE_HEAD_OCTETS)
+#define CATKHIZE_DECODED_OCTETS 31u
+#define CATKHIZE_PART_OCTETS 31u
+#define CATKHIZE_RESPONSE_OCTETS 41u
+#define CATKHIZE_RECEPTION_OCTETS 51u
+#define CATKHIZE_REPLY_OCTETS 42u
+#define CATKHIZE_WRITTEN_OCTETS 8u
+#define CATKHIZE_RECEIVER_OCTETS 3930u
+#define CATKHIZE_PLAN_OCTETS 5958u
+#define CATKHIZE_SENDER_OCTETS 6130u
+#define CATKHIZE_STATE_OCTETS 4u
+#define CATKHIZE_SUBMISSION_OCTETS 48u
+#define CATKHIZE_TRAIN_OCTETS 59u
+
+/* The first octet of a receiver's, a plan's and a sender's buffer. */
+#define CATKHIZE_LAYOUT_VERSION 1u
+
+/* ---- Layouts ----
+ *
+ * CATKHIZE_layout_AT_field is the offset of a field. Numbers stand highest octet first; flags are 0 or
+ * 1; a field that may be absent is a flag, then the value in its full width, 0 where the flag is 0. */
+
+/* SEGMENT: a segment without its data. A kind that is not Begin has no services, one that is not End no
+ * CRC: those octets are 0. */
+#define CATKHIZE_SEGMENT_AT_TRANSACTION 0u
+#define CATKHIZE_SEGMENT_AT_SEQUENCE 1u
+#define CATKHIZE_SEGMENT_AT_KIND 2u
+#define CATKHIZE_SEGMENT_AT_LENGTH_STATED 3u
+#define CATKHIZE_SEGMENT_AT_LENGTH 4u /* 16 bits */
+#define CATKHIZE_SEGMENT_AT_SERVICES_PRESENT 6u
+#define CATKHIZE_SEGMENT_AT_COMPRESSION 7u
+#define CATKHIZE_SEGMENT_AT_WINDOW 8u
+#define CATKHIZE_SEGMENT_AT_CRC_STATUS 9u
+#define CATKHIZE_SEGMENT_AT_CRC_KIND 10u
+#define CATKHIZE_SEGMENT_AT_CRC 11u /* 32 bits */
+
+#define CATKHIZE_KIND_BEGIN 0u
+#define CATKHIZE_KIND_CONTINUE 1u
+#define CATKHIZE_KIND_END 2u
+
+#define CATKHIZE_COMPRESSION_NONE 0u
+#define CATKHIZE_COMPRESSION_V42BIS 1u
+
+#define CATKHIZE_WINDOW_PROHIBITED 0u
+#define CATKHIZE_WINDOW_EVERY4 1u
+#define CATKHIZE_WINDOW_EVERY8 2u
+#define CATKHIZE_WINDOW_EVERY16 3u
+#define CATKHIZE_WINDOW_LAST 4u
+#define CATKHIZE_WINDOW_EXCEPTIONS 5u
+
+#define CATKHIZE_CRC_STATUS_NONE 0u
+#define CATKHIZE_CRC_STATUS_CRC16 1u
+#define CATKHIZE_CRC_STATUS_CRC24 2u
+
+#define CATKHIZE_CRC_ABSENT 0u
+#define CATKHIZE_CRC_16 1u
+#define CATKHIZE_CRC_24 2u
+
+/* HEAD: SEGMENT, then the number of its data octets. */
+#define CATKHIZE_HEAD_AT_DATA_LENGTH 15u /* 64 bits */
+/* DECODED: HEAD, then the number of unparsed octets. */
+#define CATKHIZE_DECODED_AT_UNPARSED 23u /* 64 bits */
+/* PART: HEAD, then where its data begin in the message. */
+#define CATKHIZE_PART_AT_OFFSET 23u /* 64 bits */
+
+/* RESPONSE. Entry i of the map is bit i % 64 of word i / 64; bits past the entries are ignored when read. */
+#define CATKHIZE_RESPONSE_AT_TRANSACTION 0u
+#define CATKHIZE_RESPONSE_AT_STATUS 1u
+#define CATKHIZE_RESPONSE_AT_ENTRIES 2u /* 16 bits */
+#define CATKHIZE_RESPONSE_AT_MAP 4u /* four words of 64 bits */
+#define CATKHIZE_RESPONSE_AT_SUPPORT_LISTED 36u
+#define CATKHIZE_RESPONSE_AT_SUPPORT 37u /* compression, encryption, window, CRC: 0 or 1 each */
+
+#define CATKHIZE_STATUS_CONTINUING 0u
+#define CATKHIZE_STATUS_INTER_SEGMENT_TIMEOUT 1u
+#define CATKHIZE_STATUS_ABORTED 2u
+#define CATKHIZE_STATUS_CRC_SELECTION_UNSUPPORTED 3u
+#define CATKHIZE_STATUS_COMPRESSION_UNSUPPORTED 4u
+#define CATKHIZE_STATUS_ENCRYPTION_UNSUPPORTED 5u
+#define CATKHIZE_STATUS_ACKNOWLEDGMENT_WINDOW_UNSUPPORTED 6u
+#define CATKHIZE_STATUS_PROTOCOL_UNSUPPORTED 7u
+#define CATKHIZE_STATUS_MESSAGE_LENGTH_ERROR 8u
+#define CATKHIZE_STATUS_MESSAGE_TOO_LONG 9u
+#define CATKHIZE_STATUS_RECEIVED 10u
+#define CATKHIZE_STATUS_DUPLICATE_SIZE_MISMATCH 11u
+#define CATKHIZE_STATUS_CRC_ERROR 12u
+#define CATKHIZE_STATUS_MULTIPLE_SERVICES_UNSUPPORTED 13u
+
+/* REPLY: a response that is to be sent, if any. */
+#define CATKHIZE_REPLY_AT_PRESENT 0u
+#define CATKHIZE_REPLY_AT_RESPONSE 1u
+/* RECEPTION: REPLY, then the message that is handed over, if any: the first octets of output. */
+#define CATKHIZE_RECEPTION_AT_PRESENT 0u
+#define CATKHIZE_RECEPTION_AT_RESPONSE 1u
+#define CATKHIZE_RECEPTION_AT_HANDED_OVER 42u
+#define CATKHIZE_RECEPTION_AT_MESSAGE_OCTETS 43u /* 64 bits */
+/* TRAIN: how many segments were received, then the RECEPTION of the last of them. */
+#define CATKHIZE_TRAIN_AT_RECEIVED 0u /* 64 bits */
+#define CATKHIZE_TRAIN_AT_RECEPTION 8u
+
+/* Protocols. Only Segmented, and CarrierSpecific with both top bits of its octet set, are served. */
+#define CATKHIZE_PROTOCOL_SEGMENTED 0u
+#define CATKHIZE_PROTOCOL_CARRIER_SPECIFIC 1u
+#define CATKHIZE_PROTOCOL_OTHER 2u
+
+/* RECEIVER. The fields after the layout version may be read by the caller; written only by the calls. */
+#define CATKHIZE_RECEIVER_AT_PEER_KIND 1u
+#define CATKHIZE_RECEIVER_AT_PEER_WIDTH 2u
+#define CATKHIZE_RECEIVER_AT_PEER_VALUE 3u /* 64 bits */
+#define CATKHIZE_RECEIVER_AT_PROTOCOL 11u
+#define CATKHIZE_RECEIVER_AT_PROTOCOL_OCTET 12u
+#define CATKHIZE_RECEIVER_AT_TRANSACTION 13u
+#define CATKHIZE_RECEIVER_AT_VERSION 14u
+#define CATKHIZE_RECEIVER_AT_MAXIMUM 15u /* 64 bits */
+#define CATKHIZE_RECEIVER_AT_STATE 23u
+#define CATKHIZE_RECEIVER_AT_STATUS 24u /* with Failed */
+#define CATKHIZE_RECEIVER_AT_COMPRESSION 25u
+#define CATKHIZE_RECEIVER_AT_WINDOW 26u
+#define CATKHIZE_RECEIVER_AT_CRC_STATUS 27u
+#define CATKHIZE_RECEIVER_AT_END_KNOWN 28u
+#define CATKHIZE_RECEIVER_AT_END 29u
+#define CATKHIZE_RECEIVER_AT_LENGTH_STATED 30u
+#define CATKHIZE_RECEIVER_AT_LENGTH 31u /* 16 bits */
+#define CATKHIZE_RECEIVER_AT_STORED_OCTETS 33u /* 64 bits */
+#define CATKHIZE_RECEIVER_AT_DEADLINE_RUNS 41u
+#define CATKHIZE_RECEIVER_AT_DEADLINE 42u /* 64 bits */
+#define CATKHIZE_RECEIVER_AT_LAST_READING 50u /* 64 bits */
+#define CATKHIZE_RECEIVER_AT_HELD 58u /* four words of 64 bits, as in a map */
+#define CATKHIZE_RECEIVER_AT_DATA_LENGTHS 90u /* 256 of 16 bits */
+#define CATKHIZE_RECEIVER_AT_SLOTS 602u /* 256 of 13 octets: the last 13 of a SEGMENT */
+
+#define CATKHIZE_RECEIVER_AWAITING_BEGIN 0u
+#define CATKHIZE_RECEIVER_RECEIVING 1u
+#define CATKHIZE_RECEIVER_COMPLETE 2u
+#define CATKHIZE_RECEIVER_FAILED 3u
+#define CATKHIZE_RECEIVER_EXPIRED 4u
+#define CATKHIZE_RECEIVER_CANCELED 5u
+
+/* PLAN. Planned: capacities from which every segment follows. Frozen: heads. The other's octets are 0. */
+#define CATKHIZE_PLAN_AT_FORM 1u
+#define CATKHIZE_PLAN_AT_MESSAGE_OCTETS 2u /* planned; 64 bits, as all below but where said */
+#define CATKHIZE_PLAN_AT_BUDGET 10u
+#define CATKHIZE_PLAN_AT_TRANSACTION 18u /* an octet */
+#define CATKHIZE_PLAN_AT_WINDOW 19u /* an octet */
+#define CATKHIZE_PLAN_AT_BEGIN_OCTETS 20u
+#define CATKHIZE_PLAN_AT_LATER_CAPACITY 28u
+#define CATKHIZE_PLAN_AT_COUNT 36u
+#define CATKHIZE_PLAN_AT_STATES_LENGTH 44u /* a flag */
+#define CATKHIZE_PLAN_AT_FROZEN_COUNT 45u
+#define CATKHIZE_PLAN_AT_FROZEN_MESSAGE_OCTETS 53u
+#define CATKHIZE_PLAN_AT_FROZEN_BUDGET 61u
+#define CATKHIZE_PLAN_AT_FROZEN_WINDOW 69u /* an octet */
+#define CATKHIZE_PLAN_AT_FROZEN_HEADS 70u /* 256 HEADs, those at and past the count all 0 */
+
+#define CATKHIZE_PLAN_PLANNED 0u
+#define CATKHIZE_PLAN_FROZEN 1u
+
+/* SENDER. */
+#define CATKHIZE_SENDER_AT_PEER_KIND 1u
+#define CATKHIZE_SENDER_AT_PEER_WIDTH 2u
+#define CATKHIZE_SENDER_AT_PEER_VALUE 3u /* 64 bits */
+#define CATKHIZE_SENDER_AT_PROTOCOL 11u
+#define CATKHIZE_SENDER_AT_PROTOCOL_OCTET 12u
+#define CATKHIZE_SENDER_AT_VERSION 13u
+#define CATKHIZE_SENDER_AT_NUMBER 14u /* 64 bits */
+#define CATKHIZE_SENDER_AT_STATE 22u /* STATE */
+#define CATKHIZE_SENDER_AT_SUBMISSION_PRESENT 26u
+#define CATKHIZE_SENDER_AT_SUBMISSION_TICKET 27u /* 64 bits */
+#define CATKHIZE_SENDER_AT_SUBMISSION_INDEX 35u
+#define CATKHIZE_SENDER_AT_SUBMISSION_PREPARED 36u /* 64 bits */
+#define CATKHIZE_SENDER_AT_LAST_TICKET 44u /* 64 bits */
+#define CATKHIZE_SENDER_AT_SUBMITTED 52u /* four words of 64 bits, as in a map; the next two too */
+#define CATKHIZE_SENDER_AT_RETRY 84u
+#define CATKHIZE_SENDER_AT_RECEIVED 116u
+#define CATKHIZE_SENDER_AT_DEADLINE_RUNS 148u
+#define CATKHIZE_SENDER_AT_DEADLINE 149u /* 64 bits */
+#define CATKHIZE_SENDER_AT_LAST_READING 157u /* 64 bits */
+#define CATKHIZE_SENDER_AT_SUBMISSIONS 165u /* 64 bits */
+#define CATKHIZE_SENDER_AT_PLAN 173u /* a PLAN without its layout version */
+
+/* STATE: what does not apply is 0. */
+#define CATKHIZE_STATE_AT_STATE 0u
+#define CATKHIZE_STATE_AT_COMPLETION 1u /* with Complete */
+#define CATKHIZE_STATE_AT_FAILURE 1u /* with Failed */
+#define CATKHIZE_STATE_AT_LOWER_LAYER 2u /* with LowerLayer */
+#define CATKHIZE_STATE_AT_VALUE 3u /* the cause of Rejected, the status of Peer */
+
+#define CATKHIZE_SENDER_PREPARED 0u
+#define CATKHIZE_SENDER_AWAITING_ACCEPT 1u
+#define CATKHIZE_SENDER_AWAITING_RESPONSE 2u
+#define CATKHIZE_SENDER_COMPLETE 3u
+#define CATKHIZE_SENDER_FAILED 4u
+#define CATKHIZE_SENDER_CANCELLED 5u
+
+#define CATKHIZE_COMPLETE_LOWER_LAYER_ACCEPTED 0u
+#define CATKHIZE_COMPLETE_PEER_RECEIVED 1u
+#define CATKHIZE_COMPLETE_EXCEPTION_INTERVAL_ELAPSED 2u
+
+#define CATKHIZE_FAILED_SEGMENT_INTERVAL 0u
+#define CATKHIZE_FAILED_LOWER_LAYER 1u
+#define CATKHIZE_FAILED_PEER 2u
+
+#define CATKHIZE_LOWER_LAYER_REJECTED 0u
+#define CATKHIZE_LOWER_LAYER_TIMED_OUT 1u
+#define CATKHIZE_LOWER_LAYER_CANCELLED 2u
+
+/* SUBMISSION: the token (number and ticket), then the segment to hand to Layer 3. */
+#define CATKHIZE_SUBMISSION_AT_NUMBER 0u /* 64 bits */
+#define CATKHIZE_SUBMISSION_AT_TICKET 8u /* 64 bits */
+#define CATKHIZE_SUBMISSION_AT_INDEX 16u
+#define CATKHIZE_SUBMISSION_AT_HEAD 17u /* HEAD */
+#define CATKHIZE_SUBMISSION_AT_OFFSET 40u /* 64 bits: where its data begin in the message */
+
+/* ---- Numbers in buffers ---- */
+
+static inline uint16_t catkhize_get16(const uint8_t *at) {
+    return (uint16_t)((uint16_t)((uint16_t)at[0] << 8) | at[1]);
+}
+
+static inline uint32_t catkhize_get32(const uint8_t *at) {
+    return (uint32_t)catkhize_get16(at) << 16 | catkhize_get16(at + 2);
+}
+
+static inline uint64_t catkhize_get64(const uint8_t *at) {
+    return (uint64_t)catkhize_get32(at) << 32 | catkhize_get32(at + 4);
+}
+
+static inline void catkhize_put16(uint8_t *at, uint16_t value) {
+    at[0] = (uint8_t)(value >> 8);
+    at[1] = (uint8_t)(value & 0xffu);
+}
+
+static inline void catkhize_put32(uint8_t *at, uint32_t value) {
+    catkhize_put16(at, (uint16_t)(value >> 16));
+    catkhize_put16(at + 2, (uint16_t)(value & 0xffffu));
+}
+
+static inline void catkhize_put64(uint8_t *at, uint64_t value) {
+    catkhize_put32(at, (uint32_t)(value >> 32));
+    catkhize_put32(at + 4, (uint32_t)(value & 0xffffffffu));
+}
+
+/* Entry i (0 to 255) of four words: of a map, of held marks, of a sender's marks. */
+static inline int catkhize_entry(const uint8_t *words, unsigned i) {
+    return words[8u * (i / 64u) + (7u - i % 64u / 8u)] >> (i % 8u) & 1;
+}
+
+/* ---- Segments ---- */
+
+/* Writes a segment to the first octets of output and their number (3 to 264) to answer. */
+uint32_t catkhize_encode(
+    const uint8_t *segment, size_t segment_octets, /* SEGMENT */
+    const uint8_t *data, size_t data_octets,
+    uint8_t version,
+    uint8_t *output, size_t output_octets,
+    uint8_t *answer, size_t answer_octets); /* WRITTEN */
+
+/* Reads a segment. Its data are the octets from the fourth on, as many as the answer counts; the
+ * unparsed octets are the last ones. */
+uint32_t catkhize_decode(
+    const uint8_t *octets, size_t octets_octets,
+    uint8_t version,
+    uint8_t *answer, size_t answer_octets); /* DECODED */
+
+/* ---- Plans ---- */
+
+/* Cuts a message into segments of at most budget octets. CATKHIZE_NOTHING: it fits whole and needs no
+ * segments; the plan buffer is then as it was, as after a refusal. */
+uint32_t catkhize_plan_message(
+    const uint8_t *message, size_t message_octets,
+    uint64_t budget,
+    uint8_t transaction,
+    uint8_t window,
+    uint8_t version,
+    uint64_t ceiling,
+    uint8_t *plan, size_t plan_octets); /* PLAN */
+
+/* Segment index of a plan, planned or frozen. CATKHIZE_NOTHING: there is no such segment. */
+uint32_t catkhize_plan_segment(
+    const uint8_t *plan, size_t plan_octets, /* PLAN */
+    uint8_t index,
+    uint8_t *answer, size_t answer_octets); /* PART */
+
+/* Takes a cutting that was made earlier: the first count of 256 heads, whose data stand one after another
+ * in joined. Only a true cutting of message is accepted. After a refusal plan is as it was. */
+uint32_t catkhize_try_from_frozen(
+    const uint8_t *heads, size_t heads_octets, /* 256 HEADs */
+    uint64_t count,
+    const uint8_t *joined, size_t joined_octets,
+    const uint8_t *message, size_t message_octets,
+    uint64_t budget,
+    uint8_t version,
+    uint64_t ceiling,
+    uint8_t *plan, size_t plan_octets); /* PLAN */
+
+/* ---- Receiver ----
+ *
+ * One record for each transaction that is received, and a store of at least CATKHIZE_STORE_OCTETS that
+ * goes with it from call to call. What the store holds before the first call does not matter. Readings
+ * are milliseconds of a clock that never falls. A due deadline acts when catkhize_receiver_advance is
+ * called: the record's deadline says by when. Failure, expiry and cancelling set the store's first
+ * CATKHIZE_STORE_OCTETS octets to 0. */
+
+/* Writes a new receiver to record. Messages of up to maximum octets are taken. */
+uint32_t catkhize_receiver_new(
+    uint8_t *record, size_t record_octets, /* RECEIVER */
+    uint8_t peer_kind, uint8_t peer_width, uint64_t peer_value,
+    uint8_t protocol, uint8_t protocol_octet,
+    uint8_t transaction,
+    uint8_t version,
+    uint64_t maximum,
+    uint64_t reading);
+
+/* Takes one decoded segment: segment and data as catkhize_decode gave them, and the number of octets it
+ * left unparsed. The output has at least as many octets as the smaller of the record's maximum and
+ * CATKHIZE_STORE_OCTETS. A failed reception is no refusal: the record's state has its status. Refusal 38
+ * changes the record in two cases: under Prohibited past the deadline the receiver expires (and the store
+ * becomes 0), and a Complete receiver takes the reading of a segment that it does not hold. */
+uint32_t catkhize_receiver_receive(
+    uint8_t *record, size_t record_octets, /* RECEIVER */
+    uint8_t *store, size_t store_octets,
+    uint8_t *output, size_t output_octets,
+    uint8_t peer_kind, uint8_t peer_width, uint64_t peer_value,
+    uint8_t protocol, uint8_t protocol_octet,
+    const uint8_t *segment, size_t segment_octets, /* SEGMENT */
+    const uint8_t *data, size_t data_octets,
+    uint64_t unparsed,
+    uint64_t reading,
+    uint8_t *answer, size_t answer_octets); /* RECEPTION */
+
+/* Lets time pass. A response in the answer asks the peer for what is missing. */
+uint32_t catkhize_receiver_advance(
+    uint8_t *record, size_t record_octets, /* RECEIVER */
+    uint8_t *store, size_t store_octets,
+    uint64_t reading,
+    uint8_t *answer, size_t answer_octets); /* REPLY */
+
+/* Ends an open reception. */
+uint32_t catkhize_receiver_cancel(
+    uint8_t *record, size_t record_octets, /* RECEIVER */
+    uint8_t *store, size_t store_octets,
+    uint64_t reading);
+
+/* Takes a train: segments one after another in octets, each with its number of octets in lengths (16 bits
+ * each). Each is decoded under the record's version and received, all with the same reading; it stops at
+ * the first that is refused and gives that refusal. The answer is then written too, and the record spells
+ * what the segments before the stop, and a refusal that changes the record, made of it. */
+uint32_t catkhize_receiver_train(
+    uint8_t *record, size_t record_octets, /* RECEIVER */
+    uint8_t *store, size_t store_octets,
+    uint8_t *output, size_t output_octets,
+    uint8_t peer_kind, uint8_t peer_width, uint64_t peer_value,
+    uint8_t protocol, uint8_t protocol_octet,
+    const uint8_t *octets, size_t octets_octets,
+    const uint8_t *lengths, size_t lengths_octets,
+    uint64_t reading,
+    uint8_t *answer, size_t answer_octets); /* TRAIN */
+
+/* ---- Sender ----
+ *
+ * One record for each transaction that is sent. The message stays with the caller: catkhize_sender_new
+ * checks the plan against it, and a submission says which of its octets a segment carries. Give each
+ * sender a number of its own: number and ticket together name a submission. */
+
+/* Writes a new sender to record. Its first submission is offered at once. */
+uint32_t catkhize_sender_new(
+    uint8_t *record, size_t record_octets, /* SENDER */
+    uint8_t peer_kind, uint8_t peer_width, uint64_t peer_value,
+    uint8_t protocol, uint8_t protocol_octet,
+    const uint8_t *plan, size_t plan_octets, /* PLAN */
+    const uint8_t *message, size_t message_octets,
+    uint8_t version,
+    uint64_t number,
+    uint64_t reading);
+
+/* Lets time pass. */
+uint32_t catkhize_sender_advance(
+    uint8_t *record, size_t record_octets, /* SENDER */
+    uint64_t reading,
+    uint8_t *answer, size_t answer_octets); /* STATE */
+
+/* Ends an open sender; a closed one answers its state. */
+uint32_t catkhize_sender_cancel(
+    uint8_t *record, size_t record_octets, /* SENDER */
+    uint64_t reading,
+    uint8_t *answer, size_t answer_octets); /* STATE */
+
+/* Layer 3 took the submission at the reading queued; observed is now. Refusal 44 changes the record where
+ * the window is Prohibited and queued is at or past the deadline: the sender has failed. */
+uint32_t catkhize_sender_submitted(
+    uint8_t *record, size_t record_octets, /* SENDER */
+    uint64_t number,
+    uint64_t ticket,
+    uint64_t queued,
+    uint64_t observed,
+    uint8_t *answer, size_t answer_octets); /* STATE */
+
+/* The peer's Layer 3 accepted the submission. Refusal 42 changes the record at or past the deadline: the
+ * deadline acts first. The same holds of catkhize_sender_lower_failed. */
+uint32_t catkhize_sender_accepted(
+    uint8_t *record, size_t record_octets, /* SENDER */
+    uint64_t number,
+    uint64_t ticket,
+    uint64_t reading,
+    uint8_t *answer, size_t answer_octets); /* STATE */
+
+/* Layer 3 gave the submission up. The cause is read with Rejected alone. */
+uint32_t catkhize_sender_lower_failed(
+    uint8_t *record, size_t record_octets, /* SENDER */
+    uint64_t number,
+    uint64_t ticket,
+    uint8_t failure,
+    uint8_t cause,
+    uint64_t reading,
+    uint8_t *answer, size_t answer_octets); /* STATE */
+
+/* Takes a response of the peer, with the number of bits that its decoding left unparsed. Refusal 38
+ * changes the record where the deadline has passed and closes the sender. */
+uint32_t catkhize_sender_receive_response(
+    uint8_t *record, size_t record_octets, /* SENDER */
+    uint8_t peer_kind, uint8_t peer_width, uint64_t peer_value,
+    uint8_t protocol, uint8_t protocol_octet,
+    const uint8_t *response, size_t response_octets, /* RESPONSE */
+    uint64_t unparsed,
+    uint64_t reading,
+    uint8_t *answer, size_t answer_octets); /* STATE */
+
+/* What is offered to Layer 3 now. CATKHIZE_NOTHING: nothing is. */
+uint32_t catkhize_sender_submission(
+    const uint8_t *record, size_t record_octets, /* SENDER */
+    uint8_t *answer, size_t answer_octets); /* SUBMISSION */
+
+#ifdef __cplusplus
+}
+#endif
+
+#endif /* CATKHIZE_H */

@@ -1,0 +1,64 @@
+//! The TSAR core of the bench cell: segments, plans, receiver and sender, over the static library of the proved Rattle crates.
+//!
+//! The types have the names of the Rust that the core is a port of. A call that is refused gives a [`Refusal`] with document 01's number
+//! (docs/01-scope.md). No call panics, whatever it is given. [`calls`] has the entries as they are, on octets.
+//!
+//! A message from a sender to a receiver:
+//!
+//! ```
+//! use catkhize::*;
+//!
+//! let peer = MobileIdentity { kind: 0, width: 34, value: 0x2_0000_0001 };
+//! let protocol = HigherLayerProtocol::Segmented(1);
+//! let message: Vec<u8> = (0..200).collect();
+//! let MessagePlan::Segmented(plan) =
+//!     plan_message(&message, 64, 5, AcknowledgmentWindow::Last, 1, 64)?
+//! else {
+//!     panic!("200 octets are more than 64");
+//! };
+//! let mut sender = Sender::try_new(peer, protocol, &plan, 1, 7, 1_000)?;
+//! let mut receiver = Receiver::try_new(peer, protocol, 5, 1, 65_280, 1_000)?;
+//! let mut output = [0; layout::ENCODING];
+//! let mut now = 1_000;
+//! let mut rebuilt = Vec::new();
+//! while let Some(submission) = sender.submission()? {
+//!     now += 10;
+//!     let octets = submission.segment.encode(1, &mut output)?;
+//!     sender.submitted(&submission, now, now)?;
+//!     sender.accepted(&submission, now)?;
+//!     let decoded = decode_segment(&output[..octets], 1)?;
+//!     let reception = receiver.receive(peer, protocol, &decoded, now)?;
+//!     rebuilt.extend_from_slice(reception.message.unwrap_or(&[]));
+//!     if let Some(response) = reception.response {
+//!         sender.receive_response(peer, protocol, &response, 0, now)?;
+//!     }
+//! }
+//! assert_eq!(rebuilt, message);
+//! assert_eq!(receiver.state(), ReceiverState::Complete);
+//! assert_eq!(sender.state(), SenderState::Complete(Completion::PeerReceived));
+//! # Ok::<(), Refusal>(())
+//! ```
+
+#![warn(missing_docs)]
+
+pub mod calls;
+pub mod layout;
+mod link;
+mod octets;
+mod plan;
+mod receiver;
+mod refusal;
+mod response;
+mod segment;
+mod sender;
+
+pub use link::{HigherLayerProtocol, MobileIdentity};
+pub use plan::{MessagePlan, SegmentedMessage, plan_message};
+pub use receiver::{Receiver, ReceiverState, Reception, Train};
+pub use refusal::{Given, Refusal};
+pub use response::{AcknowledgmentMap, OptionalServicesSupport, Response, Status};
+pub use segment::{
+    AcknowledgmentWindow, Compression, CrcStatus, DecodedSegment, MessageCrc, OptionalServices,
+    Segment, SegmentKind, decode_segment,
+};
+pub use sender::{Completion, LowerLayerFailure, Sender, SenderFailure, SenderState, Submission};

@@ -1,0 +1,171 @@
+use crate::octets::Take;
+use crate::{AcknowledgmentWindow, Given, Refusal, Segment, calls, layout};
+
+const MAX_SEGMENTS: usize = 256;
+
+/// What [`plan_message`] gives.
+///
+/// ```
+/// use catkhize::*;
+/// let plan = plan_message(b"abc", 3, 0, AcknowledgmentWindow::Prohibited, 1, 3)?;
+/// assert!(matches!(plan, MessagePlan::Unsegmented));
+/// # Ok::<(), Refusal>(())
+/// ```
+#[derive(Debug, Clone, PartialEq, Eq)]
+pub enum MessagePlan<'a> {
+    /// The message fits into the budget as it is.
+    Unsegmented,
+    /// The message goes out in segments.
+    Segmented(SegmentedMessage<'a>),
+}
+
+/// The segments of a message, which stays with its owner.
+///
+/// ```
+/// use catkhize::*;
+/// let plan = plan_message(b"0123456", 6, 0, AcknowledgmentWindow::Prohibited, 1, 6)?;
+/// let MessagePlan::Segmented(plan) = plan else { panic!("7 octets are more than 6") };
+/// let data: Vec<&[u8]> = (0..=255).map_while(|i| plan.segment(i)).map(|s| s.segment_data).collect();
+/// assert_eq!(data, [b"0".as_slice(), b"123", b"456"]);
+/// assert_eq!((plan.count(), plan.message_octets(), plan.payload_budget_octets()), (3, 7, 6));
+/// # Ok::<(), Refusal>(())
+/// ```
+#[derive(Debug, Clone, PartialEq, Eq)]
+pub struct SegmentedMessage<'a> {
+    record: Vec<u8>,
+    message: &'a [u8],
+}
+
+/// Cuts a message into segments of at most `payload_budget_octets`, which is at most `ceiling`.
+///
+/// ```
+/// use catkhize::*;
+/// let refused = plan_message(&[0; 257], 4, 0, AcknowledgmentWindow::Prohibited, 1, 4);
+/// assert_eq!(refused, Err(Refusal::SEGMENT_COUNT));
+/// ```
+pub fn plan_message(
+    message: &[u8],
+    payload_budget_octets: u64,
+    transaction_id: u8,
+    acknowledgment_window: AcknowledgmentWindow,
+    version: u8,
+    ceiling: u64,
+) -> Result<MessagePlan<'_>, Refusal> {
+    let mut record = vec![0; layout::PLAN];
+    let given = calls::plan_message(
+        message,
+        payload_budget_octets,
+        transaction_id,
+        acknowledgment_window as u8,
+        version,
+        ceiling,
+        &mut record,
+    );
+    Ok(if Given::new(given).done()? {
+        MessagePlan::Segmented(SegmentedMessage { record, message })
+    } else {
+        MessagePlan::Unsegmented
+    })
+}
+
+impl<'a> SegmentedMessage<'a> {
+    /// Takes segments as they were sent earlier. Only a true cutting of the message is accepted.
+    ///
+    /// ```
+    /// use catkhize::*;
+    /// let begin = SegmentKind::Begin { message_length: None, services: None };
+    /// let end = SegmentKind::End { message_length: None, crc: None };
+    /// let segment = |sequence_number, segment_data, kind| Segment { transaction_id: 2, sequence_number, segment_data, kind };
+    /// let segments = [segment(0, b"ab", begin), segment(1, b"c", end)];
+    /// let plan = SegmentedMessage::try_from_frozen(&segments, b"abc", 5, 1, 5)?;
+    /// assert_eq!(plan.segment(1), Some(segments[1]));
+    /// let other = SegmentedMessage::try_from_frozen(&segments, b"abd", 5, 1, 5);
+    /// assert_eq!(other, Err(Refusal::FROZEN_PLAN));
+    /// # Ok::<(), Refusal>(())
+    /// ```
+    pub fn try_from_frozen(
+        segments: &[Segment<'_>],
+        message: &'a [u8],
+        payload_budget_octets: u64,
+        version: u8,
+        ceiling: u64,
+    ) -> Result<Self, Refusal> {
+        let mut heads = vec![0; layout::HEADS];
+        let mut joined = Vec::new();
+        for (head, segment) in heads
+            .chunks_mut(layout::HEAD)
+            .zip(segments)
+            .take(MAX_SEGMENTS)
+        {
+            segment.put_head(head);
+            joined.extend_from_slice(segment.segment_data);
+        }
+        let mut record = vec![0; layout::PLAN];
+        let given = calls::try_from_frozen(
+            &heads,
+            segments.len() as u64,
+            &joined,
+            message,
+            payload_budget_octets,
+            version,
+            ceiling,
+            &mut record,
+        );
+        Given::new(given).done()?;
+        Ok(Self { record, message })
+    }
+
+    /// Segment `index`, if there is one.
+    pub fn segment(&self, index: u8) -> Option<Segment<'a>> {
+        let mut answer = [0; layout::PART];
+        let given = calls::plan_segment(&self.record, index, &mut answer);
+        if Given::new(given) != Given::Done {
+            return None;
+        }
+        Segment::take(&mut Take(&answer), self.message, None)
+    }
+
+    /// Whether the plan is a frozen one: which of two offsets holds.
+    fn form(&self) -> usize {
+        usize::from(Take::at(&self.record, layout::plan::FORM).flag())
+    }
+
+    fn number(&self, offsets: [usize; 2]) -> u64 {
+        let [planned, frozen] = offsets;
+        let offset = if self.form() == 0 { planned } else { frozen };
+        Take::at(&self.record, offset).take64()
+    }
+
+    /// How many segments there are: 2 to 256.
+    pub fn count(&self) -> u64 {
+        self.number(layout::plan::COUNT)
+    }
+
+    /// The number of the message's octets.
+    pub fn message_octets(&self) -> u64 {
+        self.number(layout::plan::MESSAGE_OCTETS)
+    }
+
+    /// What no segment's encoding passes.
+    pub fn payload_budget_octets(&self) -> u64 {
+        self.number(layout::plan::BUDGET)
+    }
+
+    /// The window that the Begin asks for.
+    pub fn acknowledgment_window(&self) -> AcknowledgmentWindow {
+        let [planned, frozen] = layout::plan::WINDOW;
+        let offset = if self.form() == 0 { planned } else { frozen };
+        let number = Take::at(&self.record, offset).take8();
+        AcknowledgmentWindow::from_number(number).unwrap_or(AcknowledgmentWindow::Prohibited)
+    }
+
+    /// The message that the plan cuts.
+    pub fn message(&self) -> &'a [u8] {
+        self.message
+    }
+
+    /// The plan as the calls take it: a PLAN of [`layout`].
+    pub fn record(&self) -> &[u8] {
+        &self.record
+    }
+}
