@@ -14,6 +14,12 @@ pub trait Player {
     }
 }
 
+/// Who looks on while cases are played: the differential driver, which plays them on the port.
+pub trait Watcher<P> {
+    fn before(&mut self, player: &mut P, op: u8, input: &[u8]);
+    fn after(&mut self, player: &mut P, op: u8, input: &[u8], answer: &[u8]);
+}
+
 /// How often each op, refusal and state was seen.
 #[derive(Default)]
 pub struct Tally {
@@ -36,6 +42,7 @@ pub struct Recorder<P> {
     pub player: P,
     pub list: Vec<u8>,
     pub tally: Tally,
+    watcher: Option<Box<dyn Watcher<P>>>,
 }
 
 impl<P: Player> Recorder<P> {
@@ -45,11 +52,26 @@ impl<P: Player> Recorder<P> {
             player,
             list: Vec::new(),
             tally: Tally::default(),
+            watcher: None,
+        }
+    }
+
+    /// A recorder that keeps no list and has someone look on.
+    pub fn watched(player: P, seed: u64, watcher: Box<dyn Watcher<P>>) -> Self {
+        Self {
+            watcher: Some(watcher),
+            ..Self::new(player, seed)
         }
     }
 
     /// Plays one case, appends it to the list and gives its answer.
     pub fn call(&mut self, op: u8, input: &[u8]) -> Vec<u8> {
+        if let Some(watcher) = &mut self.watcher {
+            watcher.before(&mut self.player, op, input);
+            let answer = self.player.play(op, input);
+            watcher.after(&mut self.player, op, input, &answer);
+            return answer;
+        }
         let with_heads = OPS_WITH_HEADS.contains(&op);
         let most = if with_heads {
             MOST_OCTETS_WITH_HEADS

@@ -1,20 +1,12 @@
 //! Records what the original answers. See ../../README.md for the commands and
 //! ../../RECORDED.md for the layout of the lists.
 
-mod fields;
-mod list;
-mod make;
-mod octets;
-mod play;
-mod random;
-mod refusals;
-mod tokens;
-
-use list::{Player, Recorder, Replayed, Tally, replay};
-use play::codec::Codec;
-use play::plan::Plans;
-use play::receiver::Receiving;
-use play::sender::Sending;
+use record::list::{Player, Recorder, Replayed, Tally, replay};
+use record::play::codec::Codec;
+use record::play::plan::Plans;
+use record::play::receiver::Receiving;
+use record::play::sender::Sending;
+use record::{make, tokens};
 use std::path::{Path, PathBuf};
 use std::process::ExitCode;
 use std::{env, fs};

@@ -4,21 +4,25 @@
 //! a call are the submissions that the call made.
 
 use std::alloc::{GlobalAlloc, Layout, System};
+use std::cell::Cell;
 use std::sync::Arc;
-use std::sync::atomic::{AtomicU64, Ordering};
 
 struct Counting;
 
 #[global_allocator]
 static ALLOCATOR: Counting = Counting;
-static MADE: AtomicU64 = AtomicU64::new(0);
+
+thread_local! {
+    static MADE: Cell<u64> = const { Cell::new(0) };
+}
+
 const TOKEN: Layout = Layout::new::<[usize; 2]>();
 
 // SAFETY: every call is passed on to the system's allocator as it came.
 unsafe impl GlobalAlloc for Counting {
     unsafe fn alloc(&self, layout: Layout) -> *mut u8 {
         if layout == TOKEN {
-            MADE.fetch_add(1, Ordering::Relaxed);
+            MADE.set(MADE.get() + 1);
         }
         // SAFETY: the caller's promises are the ones that the system's allocator asks for.
         unsafe { System.alloc(layout) }
@@ -32,9 +36,9 @@ unsafe impl GlobalAlloc for Counting {
 
 /// Runs `call` and tells how many tokens it made.
 pub fn counted<T>(call: impl FnOnce() -> T) -> (T, u64) {
-    let before = MADE.load(Ordering::Relaxed);
+    let before = MADE.get();
     let result = call();
-    (result, MADE.load(Ordering::Relaxed) - before)
+    (result, MADE.get() - before)
 }
 
 /// Stops the program where a token is not counted as one.

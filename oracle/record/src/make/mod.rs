@@ -1,11 +1,11 @@
 //! The inputs of the lists: every corner of document 01, systematic lists and random ones.
 
 pub mod codec;
-mod frozen;
-mod heads;
+pub mod frozen;
+pub mod heads;
 pub mod plan;
 pub mod receiver;
-mod receiver_run;
+pub mod receiver_run;
 pub mod sender;
-mod sender_run;
-mod trains;
+pub mod sender_run;
+pub mod trains;

@@ -14,6 +14,7 @@ pub const ENCODE: u8 = 0x02;
 const FILLING: u8 = 0xa5;
 const HEADER_OCTETS: usize = 3;
 
+#[derive(Default)]
 pub struct Codec;
 
 impl Player for Codec {

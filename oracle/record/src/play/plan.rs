@@ -15,6 +15,7 @@ const SEGMENTED: u8 = 2;
 pub const MAX_SEGMENTS: usize = 256;
 pub const NO_PATCH: usize = 0xffff_ffff;
 
+#[derive(Default)]
 pub struct Plans;
 
 impl Player for Plans {
@@ -190,7 +191,7 @@ impl Frozen {
         self.heads = (0..self.sent()).map(head).collect();
     }
 
-    fn take(take: &mut Take) -> Self {
+    pub fn take(take: &mut Take) -> Self {
         let mut frozen = Self::take_fixed(take);
         frozen.take_heads(take);
         frozen
@@ -200,7 +201,7 @@ impl Frozen {
         pattern(self.message_octets, self.message_seed)
     }
 
-    fn joined(&self) -> Vec<u8> {
+    pub fn joined(&self) -> Vec<u8> {
         patched(
             self.joined_octets,
             self.joined_seed,
@@ -209,7 +210,7 @@ impl Frozen {
         )
     }
 
-    fn sums(&self) -> bool {
+    pub fn sums(&self) -> bool {
         self.heads
             .iter()
             .map(|head| head.data_octets)

@@ -25,7 +25,7 @@ pub const STATE_OCTETS: usize = 15;
 
 #[derive(Default)]
 pub struct Receiving {
-    receiver: Option<Receiver>,
+    pub receiver: Option<Receiver>,
 }
 
 impl Player for Receiving {
@@ -90,7 +90,7 @@ impl Opening {
         out.put64(self.reading);
     }
 
-    fn take(take: &mut Take) -> Self {
+    pub fn take(take: &mut Take) -> Self {
         Self {
             peer: take_peer(take),
             protocol: take_protocol(take),
@@ -101,7 +101,7 @@ impl Opening {
         }
     }
 
-    fn open(&self) -> Result<Receiver, Refusal> {
+    pub fn open(&self) -> Result<Receiver, Refusal> {
         if !width_is_served(self.peer) {
             return Err(IDENTITY);
         }
@@ -149,7 +149,7 @@ impl Delivery {
         out.put64(self.reading);
     }
 
-    fn take(take: &mut Take) -> Self {
+    pub fn take(take: &mut Take) -> Self {
         Self {
             peer: take_peer(take),
             protocol: take_protocol(take),
@@ -165,7 +165,7 @@ impl Delivery {
         }
     }
 
-    fn decoded(&self) -> DecodedSegment {
+    pub fn decoded(&self) -> DecodedSegment {
         let data = self.data;
         let octets = patched(
             data.octets,

@@ -34,17 +34,17 @@ pub const STATE_OCTETS: usize = 32;
 
 #[derive(Default)]
 pub struct Sending {
-    open: Option<Open>,
+    pub open: Option<Open>,
 }
 
-struct Open {
-    sender: Sender,
+pub struct Open {
+    pub sender: Sender,
     /// How many submissions the sender has made; the last of them has the ticket one below.
-    made: u64,
+    pub made: u64,
     /// Every submission that was offered, under its ticket.
-    offered: BTreeMap<u64, Submission>,
+    pub offered: BTreeMap<u64, Submission>,
     /// What another sender offered.
-    foreign: Submission,
+    pub foreign: Submission,
 }
 
 impl Player for Sending {
@@ -105,7 +105,7 @@ impl Opening {
         out.put64(self.reading);
     }
 
-    fn take(take: &mut Take) -> Self {
+    pub fn take(take: &mut Take) -> Self {
         Self {
             peer: take_peer(take),
             protocol: take_protocol(take),
@@ -114,7 +114,7 @@ impl Opening {
         }
     }
 
-    fn open(&self, plan: SegmentedMessage) -> Result<Sender, Refusal> {
+    pub fn open(&self, plan: SegmentedMessage) -> Result<Sender, Refusal> {
         if !width_is_served(self.peer) {
             return Err(IDENTITY);
         }
@@ -149,7 +149,7 @@ impl Sending {
 }
 
 impl Open {
-    fn play(&mut self, op: u8, mut take: Take) -> Vec<u8> {
+    pub fn play(&mut self, op: u8, mut take: Take) -> Vec<u8> {
         let result = match op {
             ADVANCE => {
                 let reading = take.take64();
@@ -257,7 +257,7 @@ impl Open {
 /// The codec's refusals are 1 to 8.
 const FIRST_PLANNING_REFUSAL: u8 = 20;
 
-fn take_failure(take: &mut Take) -> LowerLayerFailure {
+pub fn take_failure(take: &mut Take) -> LowerLayerFailure {
     let (tag, cause) = (take.take8(), take.take8());
     match tag {
         0 => LowerLayerFailure::Rejected { cause },
@@ -294,7 +294,7 @@ impl Reply {
         out.put64(self.reading);
     }
 
-    fn take(take: &mut Take) -> Self {
+    pub fn take(take: &mut Take) -> Self {
         Self {
             peer: take_peer(take),
             protocol: take_protocol(take),
@@ -309,7 +309,7 @@ impl Reply {
     }
 
     /// None where the original has no map of this length.
-    fn decoded(&self) -> Option<DecodedResponse> {
+    pub fn decoded(&self) -> Option<DecodedResponse> {
         let set = |index: usize| {
             let octet = self.map.get(index / 8).copied().unwrap_or(0);
             (octet >> (index % 8)) & 1 == 1

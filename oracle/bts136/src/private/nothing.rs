@@ -1,0 +1,1 @@
+// No private field of this file is read.

@@ -1,0 +1,276 @@
+//! Buffers of every wrong size, and segments, heads and responses with every octet changed: the exports' own refusals of calls that keep
+//! no record. (Records of receivers and senders are damaged where lists of calls run.)
+
+use crate::codec;
+use crate::spell::{self, FILLING, filled};
+use crate::spells;
+use crate::table::{Area, Table};
+use crate::watch::{Checked, same, same_given};
+use bts136::l3::tsar::{Segment, SegmentKind};
+use catkhize::{calls, layout};
+use record::fields::take_head;
+use record::make::frozen::any_cutting;
+use record::make::heads::any_segment;
+use record::octets::Take;
+use record::play::plan::{Frozen, Head, Wanted};
+use record::random::Random;
+
+use crate::plans::{head_octets, port_frozen, port_plan};
+
+const SHORT: u32 = 256 * 80;
+const SPELLS_NONE: u32 = 256 * 81;
+const NAMES_NONE: u32 = 256 * 82;
+
+pub fn run(table: &mut Table, seed: u64) -> Checked {
+    let random = &mut Random::new(seed);
+    segments(table.area("codec"), random)?;
+    answers(table.area("codec"))?;
+    planner(table.area("planner"), random)?;
+    frozen(table.area("frozen check"), random)
+}
+
+/// SEGMENTs of every length, and with every octet set to every value.
+fn segments(area: &mut Area, random: &mut Random) -> Checked {
+    let segment = any_segment(random, 3);
+    let right = spell::segment(&segment);
+    for octets in 0..layout::SEGMENT {
+        let mut output = filled(20);
+        let mut answer = filled(layout::WRITTEN);
+        let found = calls::encode(&right[..octets], b"abc", 1, &mut output, &mut answer);
+        area.count(found);
+        same_given(found, SHORT)?;
+        same("output", &output, &filled(20))?;
+        same("answer", &answer, &filled(layout::WRITTEN))?;
+    }
+    for at in 0..layout::SEGMENT {
+        for value in 0..=255 {
+            let mut spelled = right.clone();
+            spelled[at] = value;
+            if random.once_in(3) {
+                let other = random.below(layout::SEGMENT);
+                spelled[other] = random.pick(&[0, 1, 2, 6]);
+            }
+            spelled_segment(area, &spelled)?;
+        }
+    }
+    Ok(())
+}
+
+fn spelled_segment(area: &mut Area, spelled: &[u8]) -> Checked {
+    if spells::segment(spelled) {
+        let mut segment = take_head(&mut Take(spelled));
+        segment.segment_data = b"abc".to_vec();
+        return codec::encode(area, &segment, 1, 20);
+    }
+    let mut output = filled(20);
+    let mut answer = filled(layout::WRITTEN);
+    let found = calls::encode(spelled, b"abc", 0, &mut output, &mut answer);
+    area.count(found);
+    same_given(found, SPELLS_NONE).map_err(|what| format!("SEGMENT {spelled:02x?}: {what}"))?;
+    same("output", &output, &filled(20))?;
+    same("answer", &answer, &filled(layout::WRITTEN))
+}
+
+/// Answers of every length.
+fn answers(area: &mut Area) -> Checked {
+    let segment = Segment {
+        transaction_id: 0,
+        sequence_number: 1,
+        segment_data: Vec::new(),
+        kind: SegmentKind::Continue {
+            message_length: None,
+        },
+    };
+    for octets in 0..layout::WRITTEN {
+        let mut output = filled(20);
+        let mut answer = filled(octets);
+        let spelled = spell::segment(&segment);
+        let found = calls::encode(&spelled, &[], 1, &mut output, &mut answer);
+        area.count(found);
+        same_given(found, SHORT)?;
+        same("output", &output, &filled(20))?;
+        same("answer", &answer, &filled(octets))?;
+    }
+    for octets in 0..layout::DECODED {
+        let mut answer = filled(octets);
+        let found = calls::decode(&[8, 1, 0], 1, &mut answer);
+        area.count(found);
+        same_given(found, SHORT)?;
+        same("answer", &answer, &filled(octets))?;
+    }
+    Ok(())
+}
+
+fn planner(area: &mut Area, random: &mut Random) -> Checked {
+    let wanted = Wanted {
+        message_octets: 40,
+        seed: 3,
+        budget: 12,
+        ceiling: 12,
+        transaction: 5,
+        window: 1,
+        version: 1,
+    };
+    let message = [7; 40];
+    let lengths = (0..40).map(|_| random.below(layout::PLAN));
+    let lengths: Vec<usize> = lengths.chain([0, 1, layout::PLAN - 1]).collect();
+    let (given, plan) = port_plan(&wanted, &message);
+    same_given(given, 0)?;
+    for octets in lengths {
+        // A wrong window too: the shorter buffer comes first.
+        for window in [1, 6] {
+            let mut short = filled(octets);
+            let found = calls::plan_message(&message, 12, 5, window, 1, 12, &mut short);
+            area.count(found);
+            same_given(found, SHORT)?;
+            same("plan", &short, &filled(octets))?;
+        }
+        let mut answer = filled(layout::PART);
+        let found = calls::plan_segment(&plan[..octets], 0, &mut answer);
+        area.count(found);
+        same_given(found, SHORT)?;
+        same("answer", &answer, &filled(layout::PART))?;
+    }
+    for octets in 0..layout::PART {
+        let mut answer = filled(octets);
+        let found = calls::plan_segment(&plan, 0, &mut answer);
+        area.count(found);
+        same_given(found, SHORT)?;
+        same("answer", &answer, &filled(octets))?;
+    }
+    for window in 6..=255 {
+        let mut lent = filled(layout::PLAN);
+        let found = calls::plan_message(&message, 12, 5, window, 0, 11, &mut lent);
+        area.count(found);
+        same_given(found, NAMES_NONE)?;
+        same("plan", &lent, &filled(layout::PLAN))?;
+    }
+    let (given, other) = port_frozen(&any_cutting(random));
+    same_given(given, 0)?;
+    for plan in [plan, other] {
+        for _ in 0..600 {
+            changed_plan(area, random, &plan)?;
+        }
+    }
+    Ok(())
+}
+
+/// A plan with an octet changed. Segment i of a plan that no call gives is ours to define, so only 81 is compared.
+fn changed_plan(area: &mut Area, random: &mut Random, plan: &[u8]) -> Checked {
+    let mut plan = plan.to_vec();
+    let at = match random.below(3) {
+        0 => random.below(layout::PLAN),
+        _ => random.below(120),
+    };
+    plan[at] = if random.once_in(2) {
+        random.octet()
+    } else {
+        random.below(8) as u8
+    };
+    let before = plan.clone();
+    let mut answer = filled(layout::PART);
+    let found = calls::plan_segment(&plan, random.octet(), &mut answer);
+    area.count(found);
+    let named = |what: String| format!("a plan with octet {at} changed to {}: {what}", before[at]);
+    if spells::plan(&plan) {
+        if found > 1 {
+            return same_given(found, 1).map_err(named);
+        }
+        return Ok(());
+    }
+    same_given(found, SPELLS_NONE).map_err(named)?;
+    same("answer", &answer, &[FILLING; layout::PART])
+}
+
+fn frozen(area: &mut Area, random: &mut Random) -> Checked {
+    let cutting = any_cutting(random);
+    let heads = head_octets(&cutting);
+    let (joined, message) = (cutting.joined(), cutting.message());
+    let check = |heads: &[u8], plan: &mut [u8]| {
+        calls::try_from_frozen(
+            heads,
+            cutting.count as u64,
+            &joined,
+            &message,
+            cutting.budget as u64,
+            cutting.version,
+            cutting.ceiling as u64,
+            plan,
+        )
+    };
+    for octets in [
+        0,
+        1,
+        layout::HEAD,
+        layout::HEADS - 1,
+        random.below(layout::HEADS),
+    ] {
+        let mut plan = filled(layout::PLAN);
+        let found = check(&heads[..octets], &mut plan);
+        area.count(found);
+        same_given(found, SHORT)?;
+        same("plan", &plan, &filled(layout::PLAN))?;
+    }
+    for octets in [0, 1, layout::PLAN - 1, random.below(layout::PLAN)] {
+        let mut plan = filled(octets);
+        let found = check(&heads, &mut plan);
+        area.count(found);
+        same_given(found, SHORT)?;
+        same("plan", &plan, &filled(octets))?;
+    }
+    for _ in 0..600 {
+        let mut heads = heads.clone();
+        let at = if random.once_in(3) {
+            random.below(layout::HEADS)
+        } else {
+            random.below(cutting.count * layout::HEAD)
+        };
+        heads[at] = if random.once_in(2) {
+            random.octet()
+        } else {
+            random.below(8) as u8
+        };
+        let mut plan = filled(layout::PLAN);
+        let found = check(&heads, &mut plan);
+        area.count(found);
+        let expected = if spells::heads(&heads) {
+            spelled_heads(&cutting, &heads)
+        } else {
+            SPELLS_NONE
+        };
+        let named =
+            |what: String| format!("heads with octet {at} changed to {}: {what}", heads[at]);
+        same_given(found, expected).map_err(named)?;
+        if expected != 0 {
+            same("plan", &plan, &filled(layout::PLAN))?;
+        }
+    }
+    Ok(())
+}
+
+/// What the original says of a cutting with these heads.
+fn spelled_heads(cutting: &Frozen, heads: &[u8]) -> u32 {
+    let mut take = Take(heads);
+    let mut changed = cutting.clone();
+    changed.heads = (0..cutting.count)
+        .map(|_| Head {
+            segment: take_head(&mut take),
+            data_octets: usize::try_from(take.take64()).unwrap_or(usize::MAX),
+        })
+        .collect();
+    let lengths = changed.heads.iter();
+    let sum = lengths.fold(0u64, |sum, head| {
+        sum.saturating_add(head.data_octets as u64)
+    });
+    if sum != changed.joined_octets as u64 {
+        // The sum of lengths may pass 64 bits, which the recorder's check has not to bear.
+        changed.heads[0].data_octets = changed.joined_octets + 1;
+        for head in &mut changed.heads[1..] {
+            head.data_octets = 0;
+        }
+    }
+    match changed.check() {
+        Ok(_) => 0,
+        Err((n, m)) => 256 * u32::from(n) + u32::from(m),
+    }
+}

@@ -1,0 +1,179 @@
+//! Plans: plan_message, segment i of a plan, and the frozen check.
+
+use crate::spell::{self, FILLING, filled};
+use crate::table::{Area, Table};
+use crate::watch::{Case, Checked, Checker, given, same, same_given};
+use bts136::l3::tsar::{MessagePlan, Segment, SegmentedMessage};
+use catkhize::{calls, layout};
+use record::octets::{Put, Take, pattern};
+use record::play::plan::{Frozen, MAX_SEGMENTS, PLAN, Plans, Wanted};
+use record::random::Random;
+
+const PLANNER: &str = "planner";
+const FROZEN_CHECK: &str = "frozen check";
+
+#[derive(Default)]
+pub struct PlanChecker {
+    /// Every now and then all segments of a plan are asked for, else some.
+    plans: usize,
+}
+
+impl Checker for PlanChecker {
+    type Original = Plans;
+
+    const NAME: &'static str = "plans";
+
+    fn opens(_: u8) -> bool {
+        true
+    }
+
+    fn check(&mut self, _: &mut Plans, case: &Case, answer: &[u8], table: &mut Table) -> Checked {
+        self.plans += 1;
+        let all = self.plans % 16 == 0;
+        let mut take = Take(&case.input);
+        if case.op == PLAN {
+            planner(table.area(PLANNER), &Wanted::take(&mut take), all)
+        } else {
+            let mut frozen = Frozen::take_fixed(&mut take);
+            frozen.take_heads(&mut take);
+            frozen_check(table.area(FROZEN_CHECK), &frozen, given(answer), all)
+        }
+    }
+
+    fn probe(&mut self, _: &mut Plans, _: &Case, _: &mut Table) -> Checked {
+        Ok(())
+    }
+
+    fn any_probe(&self, _: &mut Random, _: Option<&Case>) -> Option<Case> {
+        None
+    }
+}
+
+/// Octets past a plan's layout, which stay as they are.
+const MORE: usize = 3;
+
+/// Calls plan_message; the plan where there is one.
+pub fn port_plan(wanted: &Wanted, message: &[u8]) -> (u32, Vec<u8>) {
+    let mut plan = filled(layout::PLAN + MORE);
+    let given = calls::plan_message(
+        message,
+        wanted.budget as u64,
+        wanted.transaction,
+        wanted.window,
+        wanted.version,
+        wanted.ceiling as u64,
+        &mut plan,
+    );
+    (given, plan)
+}
+
+fn planner(area: &mut Area, wanted: &Wanted, all: bool) -> Checked {
+    let message = pattern(wanted.message_octets, wanted.seed);
+    let (found, plan) = port_plan(wanted, &message);
+    area.count(found);
+    match wanted.plan() {
+        Err((n, m)) => {
+            same_given(found, 256 * u32::from(n) + u32::from(m))?;
+            same("plan", &plan, &filled(layout::PLAN + MORE))
+        }
+        Ok(MessagePlan::Unsegmented(_)) => {
+            same_given(found, 1)?;
+            same("plan", &plan, &filled(layout::PLAN + MORE))
+        }
+        Ok(MessagePlan::Segmented(original)) => {
+            same_given(found, 0)?;
+            let mut expected = spell::planned(&original);
+            expected.put_all(&[FILLING; MORE]);
+            same("plan", &plan, &expected)?;
+            segments(area, &plan, &original, all)
+        }
+    }
+}
+
+/// Segments of a plan: all, or the first and the last ones; and that there is none past the count.
+fn segments(area: &mut Area, plan: &[u8], original: &SegmentedMessage, all: bool) -> Checked {
+    let segments = original.segments();
+    let count = segments.len();
+    let mut offset = 0;
+    for (index, segment) in segments.iter().enumerate() {
+        if all || index < 3 || index + 3 > count || index % 64 == 63 {
+            area.cases += 1;
+            part(plan, index, Some((segment, offset)))?;
+        }
+        offset += segment.segment_data.len();
+    }
+    if count < MAX_SEGMENTS {
+        part(plan, count, None)?;
+        part(plan, MAX_SEGMENTS - 1, None)?;
+    }
+    Ok(())
+}
+
+fn part(plan: &[u8], index: usize, expected: Option<(&Segment, usize)>) -> Checked {
+    let mut answer = [FILLING; layout::PART];
+    let index = u8::try_from(index).expect("a plan has 256 segments");
+    let found = calls::plan_segment(plan, index, &mut answer);
+    let named = |what: String| format!("segment {index}: {what}");
+    match expected {
+        None => {
+            same_given(found, 1).map_err(named)?;
+            same("answer", &answer, &[FILLING; layout::PART]).map_err(named)
+        }
+        Some((segment, offset)) => {
+            same_given(found, 0).map_err(named)?;
+            let mut expected = spell::head(segment, segment.segment_data.len());
+            expected.put64(offset as u64);
+            same("answer", &answer, &expected).map_err(named)
+        }
+    }
+}
+
+/// The heads of a frozen plan as the port takes them: 256, those past the count not empty.
+pub fn head_octets(frozen: &Frozen) -> Vec<u8> {
+    let mut octets = Vec::with_capacity(layout::HEADS);
+    for head in frozen.heads.iter().take(MAX_SEGMENTS) {
+        octets.put_all(&spell::head(&head.segment, head.data_octets));
+    }
+    // Heads past the count are not read: the last one stands there again, or the empty one.
+    let last = octets.len().saturating_sub(layout::HEAD);
+    let filler = octets.get(last..).map(<[u8]>::to_vec).unwrap_or_default();
+    while octets.len() < layout::HEADS {
+        if filler.is_empty() {
+            octets.put8(0);
+        } else {
+            octets.put_all(&filler);
+        }
+    }
+    octets
+}
+
+/// Calls try_from_frozen; the plan where there is one.
+pub fn port_frozen(frozen: &Frozen) -> (u32, Vec<u8>) {
+    let mut plan = filled(layout::PLAN + MORE);
+    let given = calls::try_from_frozen(
+        &head_octets(frozen),
+        frozen.count as u64,
+        &frozen.joined(),
+        &frozen.message(),
+        frozen.budget as u64,
+        frozen.version,
+        frozen.ceiling as u64,
+        &mut plan,
+    );
+    (given, plan)
+}
+
+fn frozen_check(area: &mut Area, frozen: &Frozen, expected: u32, all: bool) -> Checked {
+    let (found, plan) = port_frozen(frozen);
+    area.count(found);
+    same_given(found, expected)?;
+    match frozen.check() {
+        Err(_) => same("plan", &plan, &filled(layout::PLAN + MORE)),
+        Ok(original) => {
+            let mut expected = spell::frozen(&original);
+            expected.put_all(&[FILLING; MORE]);
+            same("plan", &plan, &expected)?;
+            segments(area, &plan, &original, all)
+        }
+    }
+}

@@ -1,0 +1,640 @@
+//! Senders: every call, with every octet of the record, and what is offered.
+
+use crate::plans::{port_frozen, port_plan};
+use crate::spell::{self, FILLING, SENDER_PLAN, Tickets, filled};
+use crate::spells;
+use crate::table::{Area, FROZEN_SENDER, FULL_MAP, FULL_SENDER, LATE_SUBMISSION, Table};
+use crate::watch::{Case, Checked, Checker, given, same, same_given};
+use bts136::l3::broadcast::ProtocolVersion;
+use bts136::l3::relay::set_ceiling;
+use bts136::l3::tsar::{MessagePlan, Segment, SegmentedMessage, plan_message};
+use bts136::link::tsar::{LowerLayerFailure, Sender, SenderFailure, SenderState};
+use catkhize::calls::{self, Origin};
+use catkhize::layout;
+use record::fields::take_head;
+use record::octets::{Put, Take, pattern};
+use record::play::plan::{Frozen, Wanted};
+use record::play::sender::{
+    ACCEPTED, ADVANCE, CANCEL, LOWER_FAILED, OPEN, OPEN_FROZEN, Open, Opening, RESPONSE, Reply,
+    SUBMITTED, Sending,
+};
+use record::random::Random;
+
+/// Probes: the call where tickets are nearly used up, where submissions are, on a record with octets changed, with buffers that are too
+/// short or numbers that name no case; and try_new with a plan that was changed.
+const TICKETS: u8 = 0x80;
+const COUNTER: u8 = 0x81;
+const DAMAGED: u8 = 0x82;
+const BUFFERS: u8 = 0x83;
+const PLAN: u8 = 0x84;
+
+const LAST_QUEUED: u64 = u64::MAX - 330_000;
+const LAST_TICKET: usize = 44;
+const SUBMISSIONS: usize = 165;
+
+/// The port's sender, with what never changes of it.
+struct Port {
+    origin: Origin,
+    opening: Opening,
+    number: u64,
+    record: Vec<u8>,
+    plan: Vec<u8>,
+    message: Vec<u8>,
+    /// Where each segment's data begin in the message.
+    offsets: Vec<usize>,
+}
+
+#[derive(Default)]
+pub struct Senders {
+    port: Option<Port>,
+}
+
+/// What a probe changes of a call beside the record.
+#[derive(Default)]
+struct Wrong {
+    response_octets: Option<usize>,
+    /// An octet of the response, and what it becomes.
+    response: Option<(usize, u8)>,
+    protocol: Option<u8>,
+    failure: Option<u8>,
+}
+
+fn response(reply: &Reply) -> Vec<u8> {
+    let mut out = vec![reply.transaction, reply.status];
+    out.put16(reply.entries);
+    for word in reply.map.chunks(8) {
+        let octets = word.try_into().expect("eight octets");
+        out.put64(u64::from_le_bytes(octets));
+    }
+    record::fields::put_support(&mut out, reply.support);
+    out
+}
+
+/// Makes the call of a case on the port.
+fn call(case: &Case, number: u64, record: &mut [u8], answer: &mut [u8], wrong: &Wrong) -> u32 {
+    let mut take = Take(&case.input);
+    let token = |take: &mut Take| {
+        let ticket = take.take64();
+        let foreign = take.flag();
+        (number ^ u64::from(foreign), ticket)
+    };
+    match case.op {
+        ADVANCE => calls::sender_advance(record, take.take64(), answer),
+        CANCEL => calls::sender_cancel(record, take.take64(), answer),
+        SUBMITTED => {
+            let (number, ticket) = token(&mut take);
+            let (queued, observed) = (take.take64(), take.take64());
+            calls::sender_submitted(record, number, ticket, queued, observed, answer)
+        }
+        ACCEPTED => {
+            let (number, ticket) = token(&mut take);
+            calls::sender_accepted(record, number, ticket, take.take64(), answer)
+        }
+        LOWER_FAILED => {
+            let (number, ticket) = token(&mut take);
+            let (failure, cause) = (take.take8(), take.take8());
+            let failure = wrong.failure.unwrap_or(failure);
+            let reading = take.take64();
+            calls::sender_lower_failed(record, number, ticket, failure, cause, reading, answer)
+        }
+        RESPONSE => {
+            let reply = Reply::take(&mut take);
+            let mut origin = spell::origin(reply.peer, reply.protocol);
+            origin.protocol = wrong.protocol.unwrap_or(origin.protocol);
+            let mut response = response(&reply);
+            if let Some((at, octet)) = wrong.response {
+                response[at] = octet;
+            }
+            let octets = wrong.response_octets.unwrap_or(response.len());
+            calls::sender_receive_response(
+                record,
+                origin,
+                &response[..octets],
+                reply.unparsed as u64,
+                reply.reading,
+                answer,
+            )
+        }
+        op => panic!("op {op:02x}"),
+    }
+}
+
+/// The state for the table: without the cause of Rejected.
+fn table_state(state: SenderState) -> [u8; 4] {
+    match state {
+        SenderState::Failed(SenderFailure::LowerLayer(LowerLayerFailure::Rejected { .. })) => {
+            [4, 1, 0, 0]
+        }
+        state => spell::sender_state(state),
+    }
+}
+
+/// Octets past a sender's layout, which stay as they are.
+const MORE: usize = 2;
+
+impl Port {
+    fn open(
+        case: &Case,
+        expected: u32,
+        original: Option<&Open>,
+        area: &mut Area,
+    ) -> Result<Option<Self>, String> {
+        let mut take = Take(&case.input);
+        let (planned, message, opening) = if case.op == OPEN {
+            let wanted = Wanted::take(&mut take);
+            let message = pattern(wanted.message_octets, wanted.seed);
+            let opening = Opening::take(&mut take);
+            (port_plan(&wanted, &message), message, opening)
+        } else {
+            let mut frozen = Frozen::take_fixed(&mut take);
+            let opening = Opening::take(&mut take);
+            frozen.take_heads(&mut take);
+            area.input(FROZEN_SENDER);
+            (port_frozen(&frozen), frozen.message(), opening)
+        };
+        let (given, plan) = planned;
+        same_given(given, 0).map_err(|what| format!("the plan: {what}"))?;
+        let number = opening.reading ^ 0x0123_4567_89ab_cdee;
+        let mut port = Self {
+            origin: spell::origin(opening.peer, opening.protocol),
+            opening,
+            number,
+            record: filled(layout::SENDER + MORE),
+            plan,
+            message,
+            offsets: Vec::new(),
+        };
+        let found = calls::sender_new(
+            &mut port.record,
+            port.origin,
+            &port.plan,
+            &port.message,
+            port.opening.version,
+            number,
+            port.opening.reading,
+        );
+        area.count(found);
+        same_given(found, expected)?;
+        let Some(original) = original else {
+            same("record", &port.record, &filled(layout::SENDER + MORE))?;
+            return Ok(None);
+        };
+        let mut offset = 0;
+        for segment in original.sender.plan().segments() {
+            port.offsets.push(offset);
+            offset += segment.segment_data.len();
+        }
+        if port.offsets.len() == 256 {
+            area.input(FULL_SENDER);
+        }
+        let expected = port.expected(original);
+        port.compare(&expected, original, area)?;
+        Ok(Some(port))
+    }
+
+    /// The record that the original's sender is.
+    fn expected(&self, original: &Open) -> Vec<u8> {
+        let last = original.made - 1;
+        self.expected_with(
+            &original.sender,
+            Tickets {
+                current: last,
+                last,
+            },
+        )
+    }
+
+    fn expected_with(&self, sender: &Sender, tickets: Tickets) -> Vec<u8> {
+        let version = self.opening.version;
+        let mut out = spell::sender(self.origin, version, self.number, tickets, sender);
+        out.put_all(&self.plan[1..layout::PLAN]);
+        assert_eq!(out.len(), SENDER_PLAN + layout::PLAN - 1);
+        out.resize(layout::SENDER + MORE, FILLING);
+        out
+    }
+
+    fn compare(&self, expected: &[u8], original: &Open, area: &mut Area) -> Checked {
+        same("record", &self.record, expected)?;
+        let sender = &original.sender;
+        area.state(table_state(sender.state()));
+        let mut answer = [FILLING; layout::SUBMISSION];
+        let found = calls::sender_submission(&self.record, &mut answer);
+        let mut offered = Vec::new();
+        if let Some(submission) = sender.submission() {
+            let segment: &Segment = submission.segment();
+            offered.put64(self.number);
+            offered.put64(original.made - 1);
+            offered.put8(segment.sequence_number);
+            offered.put_all(&spell::head(segment, segment.segment_data.len()));
+            offered.put64(self.offsets[usize::from(segment.sequence_number)] as u64);
+        }
+        let none = u32::from(offered.is_empty());
+        same_given(found, none).map_err(|what| format!("submission: {what}"))?;
+        offered.resize(layout::SUBMISSION, if none == 1 { FILLING } else { 0 });
+        same("submission", &answer, &offered)
+    }
+
+    fn check(&mut self, original: &Open, case: &Case, recorded: &[u8], area: &mut Area) -> Checked {
+        let mut answer = filled(layout::STATE + 1);
+        let found = call(
+            case,
+            self.number,
+            &mut self.record,
+            &mut answer,
+            &Wrong::default(),
+        );
+        area.count(found);
+        same_given(found, given(recorded))?;
+        let mut expected = filled(layout::STATE + 1);
+        if recorded[0] == 0 {
+            let state = spell::sender_state(original.sender.state());
+            expected[..layout::STATE].copy_from_slice(&state);
+        }
+        same("answer", &answer, &expected)?;
+        inputs(case, area);
+        let expected = self.expected(original);
+        self.compare(&expected, original, area)
+    }
+
+    /// The call on a copy whose last ticket is `left` below 2^64 − 1: 63 where it makes more submissions than that.
+    fn tickets(&self, original: &Open, left: u64, case: &Case, area: &mut Area) -> Checked {
+        let mut copy = copy(original);
+        let answer = play(&mut copy, case);
+        let made = copy.made - original.made;
+        let last = u64::MAX - left;
+        let mut record = self.record.clone();
+        record[LAST_TICKET..][..8].copy_from_slice(&last.to_be_bytes());
+        let before = record.clone();
+        let mut state = filled(layout::STATE);
+        let found = call(
+            case,
+            self.number,
+            &mut record,
+            &mut state,
+            &Wrong::default(),
+        );
+        area.count(found);
+        if made > left {
+            same_given(found, 256 * 63)?;
+            same("answer", &state, &filled(layout::STATE))?;
+            return same("record", &record, &before);
+        }
+        same_given(found, given(&answer))?;
+        let last = last + made;
+        let current = if made > 0 { last } else { original.made - 1 };
+        let expected = self.expected_with(&copy.sender, Tickets { current, last });
+        same("record", &record, &expected)
+    }
+
+    /// The call on copies whose submissions are counted up to `left` below 2^64 − 1.
+    fn counter(&self, original: &Open, left: u64, case: &Case, area: &mut Area) -> Checked {
+        let mut copy = copy(original);
+        let count = u64::MAX - left % 2;
+        copy.sender.set_layer3_submissions(count);
+        let answer = play(&mut copy, case);
+        let mut record = self.record.clone();
+        record[SUBMISSIONS..][..8].copy_from_slice(&count.to_be_bytes());
+        let mut state = filled(layout::STATE);
+        let found = call(
+            case,
+            self.number,
+            &mut record,
+            &mut state,
+            &Wrong::default(),
+        );
+        area.count(found);
+        same_given(found, given(&answer))?;
+        let last = copy.made - 1;
+        let expected = self.expected_with(
+            &copy.sender,
+            Tickets {
+                current: last,
+                last,
+            },
+        );
+        same("record", &record, &expected)
+    }
+
+    /// The call on a record with an octet changed: 81 where it spells none, 62 where it spells an impossible one.
+    fn damaged(
+        &self,
+        (at, change, also): (u64, u64, u64),
+        case: &Case,
+        area: &mut Area,
+    ) -> Checked {
+        let mut record = self.record.clone();
+        record[at as usize % layout::SENDER] = change as u8;
+        if also > 0 {
+            record[(also - 1) as usize % layout::SENDER] ^= (change >> 8) as u8;
+        }
+        let expected = if !spells::sender(&record) {
+            81
+        } else if spells::sender_impossible(&record) {
+            62
+        } else {
+            return Ok(());
+        };
+        let before = record.clone();
+        let mut answer = filled(layout::STATE);
+        let found = call(
+            case,
+            self.number,
+            &mut record,
+            &mut answer,
+            &Wrong::default(),
+        );
+        area.count(found);
+        same_given(found, 256 * expected)?;
+        same("answer", &answer, &filled(layout::STATE))?;
+        same("record", &record, &before)?;
+        if expected == 81 {
+            let mut answer = filled(layout::SUBMISSION);
+            same_given(calls::sender_submission(&record, &mut answer), 256 * 81)?;
+            same("submission", &answer, &filled(layout::SUBMISSION))?;
+        }
+        Ok(())
+    }
+
+    /// A buffer that is shorter than its layout (80), a response that spells none (81), a number that names no case (82).
+    fn buffers(&mut self, (which, by): (u64, u64), case: &Case, area: &mut Area) -> Checked {
+        let shorter = |octets: usize| octets - 1 - by as usize % octets;
+        let mut wrong = Wrong::default();
+        let (mut record, mut answer, mut expected) = (self.record.len(), layout::STATE, 80);
+        match which % 7 {
+            0 => record = shorter(layout::SENDER),
+            1 => answer = shorter(layout::STATE),
+            2 if case.op == RESPONSE => wrong.response_octets = Some(shorter(layout::RESPONSE)),
+            3 if case.op == RESPONSE => {
+                wrong.protocol = Some(3 + (by % 253) as u8);
+                expected = 82;
+            }
+            4 if case.op == LOWER_FAILED => {
+                wrong.failure = Some(3 + (by % 253) as u8);
+                expected = 82;
+            }
+            5 => {
+                let mut answer = filled(shorter(layout::SUBMISSION));
+                let found = calls::sender_submission(&self.record, &mut answer);
+                area.count(found);
+                same_given(found, 256 * 80)?;
+                return same("submission", &answer, &filled(answer.len()));
+            }
+            6 if case.op == RESPONSE => {
+                let mut response = response(&Reply::take(&mut Take(&case.input)));
+                let at = [1, 36, 37, 38, 39, 40][by as usize % 6];
+                response[at] = (by >> 8) as u8;
+                if spells::response(&response) {
+                    return Ok(());
+                }
+                wrong.response = Some((at, (by >> 8) as u8));
+                expected = 81;
+            }
+            _ => return Ok(()),
+        }
+        let before = self.record.clone();
+        let mut lent = filled(answer);
+        let found = call(
+            case,
+            self.number,
+            &mut self.record[..record],
+            &mut lent,
+            &wrong,
+        );
+        area.count(found);
+        same_given(found, 256 * expected)?;
+        same("answer", &lent, &filled(answer))?;
+        same("record", &self.record, &before)
+    }
+
+    /// try_new with a plan of which an octet is changed, or with another message: 81, 40 or made, as a recomputation by the original says.
+    fn changed_plan(&self, (at, change, also): (u64, u64, u64), area: &mut Area) -> Checked {
+        let mut plan = self.plan.clone();
+        plan[at as usize % layout::PLAN] = change as u8;
+        let mut message = self.message.clone();
+        match also % 4 {
+            1 => message.push(0),
+            2 => drop(message.pop()),
+            3 => {
+                let place = change as usize % message.len().max(1);
+                if let Some(octet) = message.get_mut(place) {
+                    *octet ^= 1;
+                }
+            }
+            _ => {}
+        }
+        let mut record = filled(layout::SENDER);
+        let found = calls::sender_new(
+            &mut record,
+            self.origin,
+            &plan,
+            &message,
+            self.opening.version,
+            self.number,
+            self.opening.reading,
+        );
+        area.count(found);
+        let expected = if !spells::plan(&plan) {
+            256 * 81
+        } else if is_plan_of(&plan, &message) {
+            0
+        } else {
+            256 * 40
+        };
+        same_given(found, expected)?;
+        if expected == 0 {
+            return same("plan", &record[SENDER_PLAN..], &plan[1..layout::PLAN]);
+        }
+        same("record", &record, &filled(layout::SENDER))
+    }
+}
+
+/// Whether the original's planner or frozen check gives the plan that the octets spell, for this message and under some ceiling.
+fn is_plan_of(plan: &[u8], message: &[u8]) -> bool {
+    let mut take = Take(&plan[1..]);
+    if take.take8() == 0 {
+        take.take64();
+        let budget = take.take64();
+        let (transaction, window) = (take.take8(), take.take8());
+        let Ok(budget) = usize::try_from(budget) else {
+            return false;
+        };
+        set_ceiling(budget);
+        let version = ProtocolVersion(1);
+        return match plan_message(message, budget, transaction, spell::window(window), version) {
+            // Under Planned the frozen part is not read.
+            Ok(MessagePlan::Segmented(original)) => spell::planned(&original)[..45] == plan[..45],
+            _ => false,
+        };
+    }
+    take.octets(43);
+    let count = take.take64();
+    take.take64();
+    let budget = take.take64() as usize;
+    take.take8();
+    if !(2..=256).contains(&count) {
+        return false;
+    }
+    let mut segments = Vec::new();
+    let mut offset = 0usize;
+    for _ in 0..count {
+        let mut segment = take_head(&mut take);
+        let Ok(octets) = usize::try_from(take.take64()) else {
+            return false;
+        };
+        let Some(data) = offset
+            .checked_add(octets)
+            .and_then(|end| message.get(offset..end))
+        else {
+            return false;
+        };
+        segment.segment_data = data.to_vec();
+        offset += octets;
+        segments.push(segment);
+    }
+    set_ceiling(budget);
+    SegmentedMessage::try_from_frozen(segments, message, budget, ProtocolVersion(1))
+        .is_ok_and(|original| spell::frozen(&original) == plan[..layout::PLAN])
+}
+
+fn copy(original: &Open) -> Open {
+    Open {
+        sender: original.sender.copy(),
+        made: original.made,
+        offered: original.offered.clone(),
+        foreign: original.foreign.clone(),
+    }
+}
+
+fn play(open: &mut Open, case: &Case) -> Vec<u8> {
+    open.play(case.op, Take(&case.input))
+}
+
+fn inputs(case: &Case, area: &mut Area) {
+    let mut take = Take(&case.input);
+    let late = |reading: u64| reading.abs_diff(LAST_QUEUED) <= 3;
+    match case.op {
+        RESPONSE => {
+            if Reply::take(&mut take).entries == 256 {
+                area.input(FULL_MAP);
+            }
+        }
+        SUBMITTED if late(Take(&case.input[9..]).take64()) => area.input(LATE_SUBMISSION),
+        _ => {}
+    }
+}
+
+impl Checker for Senders {
+    type Original = Sending;
+
+    const NAME: &'static str = "sender";
+
+    fn opens(op: u8) -> bool {
+        op == OPEN || op == OPEN_FROZEN
+    }
+
+    fn check(
+        &mut self,
+        original: &mut Sending,
+        case: &Case,
+        answer: &[u8],
+        table: &mut Table,
+    ) -> Checked {
+        let area = table.area(Self::NAME);
+        let original = original.open.as_ref();
+        if Self::opens(case.op) {
+            self.port = Port::open(case, given(answer), original, area)?;
+            return Ok(());
+        }
+        let port = self.port.as_mut().expect("try_new made a sender");
+        port.check(original.expect("try_new made a sender"), case, answer, area)
+    }
+
+    fn probe(&mut self, original: &mut Sending, case: &Case, table: &mut Table) -> Checked {
+        let area = table.area(Self::NAME);
+        let (Some(port), Some(original)) = (&mut self.port, &original.open) else {
+            return Ok(());
+        };
+        let mut take = Take(&case.input);
+        let numbers = (take.take64(), take.take64(), take.take64());
+        if case.op == PLAN {
+            return port.changed_plan(numbers, area);
+        }
+        let inner = Case {
+            op: take.take8(),
+            input: take.rest().to_vec(),
+        };
+        match case.op {
+            TICKETS => port.tickets(original, numbers.0 % 3, &inner, area),
+            COUNTER => port.counter(original, numbers.0, &inner, area),
+            DAMAGED => port.damaged(numbers, &inner, area),
+            _ => port.buffers((numbers.0, numbers.1), &inner, area),
+        }
+    }
+
+    fn any_probe(&self, random: &mut Random, next: Option<&Case>) -> Option<Case> {
+        self.port.as_ref()?;
+        let Some(next) = next else {
+            // After try_new and now and then: the plan.
+            let probe = random.once_in(24).then(|| Case {
+                op: PLAN,
+                input: plan_numbers(random),
+            });
+            return probe;
+        };
+        if !random.once_in(4) {
+            return None;
+        }
+        let op = random.pick(&[TICKETS, TICKETS, COUNTER, DAMAGED, DAMAGED, BUFFERS]);
+        let mut input = Vec::new();
+        match op {
+            DAMAGED => {
+                let at = if random.once_in(4) {
+                    random.below(layout::SENDER)
+                } else {
+                    random.below(260)
+                };
+                let change = if random.once_in(3) {
+                    random.below(4) as u64
+                } else {
+                    random.next() & 0xffff
+                };
+                let also = if random.once_in(3) {
+                    random.below(SENDER_PLAN) + 1
+                } else {
+                    0
+                };
+                input.put64(at as u64);
+                input.put64(change);
+                input.put64(also as u64);
+            }
+            _ => {
+                input.put64(random.below(60) as u64);
+                input.put64(random.next() >> 40);
+                input.put64(0);
+            }
+        }
+        input.put8(next.op);
+        input.put_all(&next.input);
+        Some(Case { op, input })
+    }
+}
+
+/// An octet of a plan to change, mostly one that matters, and how the message differs, if it does.
+fn plan_numbers(random: &mut Random) -> Vec<u8> {
+    let at = match random.below(5) {
+        0 => random.below(layout::PLAN),
+        1 => random.within(45, 70 + 4 * layout::HEAD),
+        _ => random.below(45),
+    };
+    let change = if random.once_in(2) {
+        random.below(6) as u64
+    } else {
+        random.next() & 0xff
+    };
+    let also = random.pick(&[0, 0, 0, 1, 2, 3]);
+    let mut input = Vec::new();
+    input.put64(at as u64);
+    input.put64(change);
+    input.put64(also);
+    input
+}

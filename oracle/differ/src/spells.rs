@@ -1,0 +1,211 @@
+//! Whether a buffer spells what its layout says (81), and whether the state that a record spells is impossible (62): document 01's list,
+//! read here from the octets alone.
+
+use catkhize::layout;
+use record::octets::Take;
+
+/// A flag, and a value that is 0 where the flag is.
+fn optional(take: &mut Take, octets: usize) -> bool {
+    let flag = take.take8();
+    let value = take.octets(octets);
+    flag == 1 || flag == 0 && value.iter().all(|octet| *octet == 0)
+}
+
+fn kind(take: &mut Take) -> bool {
+    let tag = take.take8();
+    let length = optional(take, 2);
+    let mut services_at = Take(take.0);
+    let services_flag = services_at.take8();
+    let services = optional(take, 3);
+    let [compression, window, crc_status] = [
+        services_at.take8(),
+        services_at.take8(),
+        services_at.take8(),
+    ];
+    let crc_tag = take.take8();
+    let value = take.take32();
+    tag <= 2
+        && length
+        && services
+        && (services_flag == 0 || tag == 0 && compression <= 1 && window <= 5 && crc_status <= 2)
+        && match crc_tag {
+            0 => value == 0,
+            1 => tag == 2 && value <= 0xffff,
+            2 => tag == 2,
+            _ => false,
+        }
+}
+
+/// A SEGMENT.
+pub fn segment(octets: &[u8]) -> bool {
+    let mut take = Take(octets);
+    take.octets(2);
+    kind(&mut take)
+}
+
+/// 256 HEADs.
+pub fn heads(octets: &[u8]) -> bool {
+    octets[..layout::HEADS].chunks(layout::HEAD).all(segment)
+}
+
+/// A RESPONSE.
+pub fn response(octets: &[u8]) -> bool {
+    let mut take = Take(octets);
+    take.take8();
+    let status = take.take8();
+    take.octets(2 + 32);
+    let listed = take.take8();
+    let support = take.octets(4);
+    let most = match listed {
+        0 => 0,
+        1 => 1,
+        _ => return false,
+    };
+    status <= 13 && support.iter().all(|octet| *octet <= most)
+}
+
+fn zero(octets: &[u8]) -> bool {
+    octets.iter().all(|octet| *octet == 0)
+}
+
+/// A RECEIVER.
+pub fn receiver(octets: &[u8]) -> bool {
+    let mut take = Take(octets);
+    let version = take.take8();
+    take.octets(10);
+    let protocol = take.take8();
+    take.octets(1 + 1 + 1 + 8);
+    let (state, status) = (take.take8(), take.take8());
+    let [compression, window, crc_status] = [take.take8(), take.take8(), take.take8()];
+    let end = optional(&mut take, 1);
+    let length = optional(&mut take, 2);
+    take.octets(8);
+    let deadline = optional(&mut take, 8);
+    take.octets(8 + 32 + 512);
+    version == layout::LAYOUT_VERSION
+        && protocol <= 2
+        && state <= 5
+        && (state == 3 && status <= 13 || status == 0)
+        && compression <= 1
+        && window <= 5
+        && crc_status <= 2
+        && end
+        && length
+        && deadline
+        && (0..256).all(|_| kind(&mut take))
+}
+
+/// A PLAN without its layout version.
+fn plan_after_version(octets: &[u8]) -> bool {
+    let mut take = Take(octets);
+    let form = take.take8();
+    let mut planned = Take(take.octets(43));
+    let frozen = take.0;
+    let right = match form {
+        0 => {
+            planned.octets(17);
+            let window = planned.take8();
+            planned.octets(24);
+            window <= 5 && planned.take8() <= 1
+        }
+        1 => zero(planned.0),
+        _ => false,
+    };
+    right && frozen[24] <= 5 && heads(&frozen[25..])
+}
+
+/// A PLAN.
+pub fn plan(octets: &[u8]) -> bool {
+    octets[0] == layout::LAYOUT_VERSION && plan_after_version(&octets[1..])
+}
+
+/// A STATE.
+fn state(octets: &[u8]) -> bool {
+    match octets {
+        [0 | 1 | 2 | 5, 0, 0, 0] => true,
+        [3, completion, 0, 0] => *completion <= 2,
+        [4, 0, 0, 0] | [4, 1, 0, _] | [4, 1, 1 | 2, 0] => true,
+        [4, 2, 0, status] => *status <= 13,
+        _ => false,
+    }
+}
+
+/// A SENDER.
+pub fn sender(octets: &[u8]) -> bool {
+    let mut take = Take(octets);
+    let version = take.take8();
+    take.octets(10);
+    let protocol = take.take8();
+    take.octets(1 + 1 + 8);
+    let state = state(take.octets(4));
+    let submission = optional(&mut take, 17);
+    take.octets(8 + 96);
+    let deadline = optional(&mut take, 8);
+    take.octets(16);
+    version == layout::LAYOUT_VERSION
+        && protocol <= 2
+        && state
+        && submission
+        && deadline
+        && plan_after_version(take.0)
+}
+
+fn marks(take: &mut Take) -> [bool; 256] {
+    let words: Vec<u64> = (0..4).map(|_| take.take64()).collect();
+    std::array::from_fn(|index| words[index / 64] >> (index % 64) & 1 == 1)
+}
+
+/// A record of a receiver that document 01 calls impossible.
+pub fn receiver_impossible(octets: &[u8]) -> bool {
+    let mut take = Take(&octets[15..]);
+    let maximum = take.take64();
+    let state = take.take8();
+    take.octets(4);
+    let end_known = take.flag();
+    let end = usize::from(take.take8());
+    take.octets(3);
+    let stored = take.take64();
+    let deadline = take.flag();
+    take.octets(16);
+    let held = marks(&mut take);
+    let lengths: Vec<u64> = (0..256).map(|_| take.take16() as u64).collect();
+    let first_kind = take.take8();
+    let held_lengths = || {
+        (0..256)
+            .filter(|index| held[*index])
+            .map(|index| lengths[index])
+    };
+    let (receiving, complete) = (state == 1, state == 2);
+    held_lengths().any(|length| length > 255)
+        || held_lengths().sum::<u64>() != stored
+        || stored > maximum
+        || !(receiving || complete) && held.contains(&true)
+        || (receiving || complete) && !(held[0] && first_kind == 0)
+        || end_known && held[end + 1..].contains(&true)
+        || deadline && !receiving
+        || complete && (!end_known || held[..end].contains(&false))
+}
+
+/// A record of a sender that document 01 calls impossible.
+pub fn sender_impossible(octets: &[u8]) -> bool {
+    let state = octets[22];
+    let present = octets[26] == 1;
+    let index = u64::from(octets[35]);
+    let mut take = Take(&octets[52..]);
+    let maps = [marks(&mut take), marks(&mut take), marks(&mut take)];
+    let deadline = octets[148] == 1;
+    let count = if octets[173] == 0 {
+        Take(&octets[173 + 35..]).take64()
+    } else {
+        Take(&octets[173 + 44..]).take64()
+    };
+    if !(2..=256).contains(&count) {
+        return true;
+    }
+    present != (state <= 1)
+        || present && index >= count
+        || maps
+            .iter()
+            .any(|marks| marks[count as usize..].contains(&true))
+        || deadline && state >= 3
+}

@@ -1,0 +1,267 @@
+//! What was run: cases, refusals, states and inputs of each area, with their counts.
+
+use std::collections::BTreeMap;
+
+/// No call gives a greater number than 82/0.
+const NUMBERS: usize = 256 * 83;
+
+#[derive(Clone)]
+pub struct Area {
+    pub cases: u64,
+    /// How often each number was given.
+    given: Vec<u64>,
+    pub states: BTreeMap<[u8; 4], u64>,
+    /// Inputs that a run has to have, by name.
+    pub inputs: BTreeMap<&'static str, u64>,
+}
+
+impl Default for Area {
+    fn default() -> Self {
+        Self {
+            cases: 0,
+            given: vec![0; NUMBERS],
+            states: BTreeMap::new(),
+            inputs: BTreeMap::new(),
+        }
+    }
+}
+
+impl Area {
+    /// A case of this area, and the number that the port gave.
+    pub fn count(&mut self, given: u32) {
+        self.cases += 1;
+        if let Some(count) = self.given.get_mut(given as usize) {
+            *count += 1;
+        }
+    }
+
+    pub fn state(&mut self, state: [u8; 4]) {
+        *self.states.entry(state).or_default() += 1;
+    }
+
+    pub fn input(&mut self, name: &'static str) {
+        *self.inputs.entry(name).or_default() += 1;
+    }
+
+    fn add(&mut self, other: &Self) {
+        self.cases += other.cases;
+        for (count, more) in self.given.iter_mut().zip(&other.given) {
+            *count += more;
+        }
+        for (state, more) in &other.states {
+            *self.states.entry(*state).or_default() += more;
+        }
+        for (name, more) in &other.inputs {
+            *self.inputs.entry(name).or_default() += more;
+        }
+    }
+
+    fn refusals(&self) -> impl Iterator<Item = (usize, u64)> {
+        let given = self.given.iter().copied().enumerate();
+        given.filter(|(number, count)| *number >= 256 && *count > 0)
+    }
+}
+
+/// The areas of a run, by name.
+#[derive(Clone, Default)]
+pub struct Table(pub BTreeMap<&'static str, Area>);
+
+impl Table {
+    pub fn area(&mut self, name: &'static str) -> &mut Area {
+        self.0.entry(name).or_default()
+    }
+
+    pub fn add(&mut self, other: &Self) {
+        for (name, area) in &other.0 {
+            self.area(name).add(area);
+        }
+    }
+}
+
+fn refusal_name(number: usize) -> String {
+    match number % 256 {
+        0 => (number / 256).to_string(),
+        field => format!("{}/{field}", number / 256),
+    }
+}
+
+/// The refusals that a run has to see, by area. 24, 40, 41, 60 to 63 and 80 to 82 lie outside document 01's domain, as no list of calls on
+/// right buffers gives them; the run reaches them with damaged plans, records and buffers.
+const REFUSALS: [(&str, &str); 6] = [
+    ("codec", "1 2 3 4 5 6/1 6/2 6/3 6/4 6/5 7 8 61 80 81"),
+    ("planner", "1 6/1 20 21 22 80 81 82"),
+    ("frozen check", "1 6/1 6/2 6/3 6/4 6/5 20 22 23 24 80 81"),
+    (
+        "receiver",
+        "1 6/1 6/2 6/3 6/4 6/5 30 31 32 33 34 35 36 37 38 60 61 62 80 81 82",
+    ),
+    (
+        "train",
+        "2 3 4 5 6/3 7 8 30 31 32 33 34 35 36 37 38 60 61 62 80 81 82",
+    ),
+    (
+        "sender",
+        "1 6/1 6/6 6/7 30 31 32 33 34 38 40 41 42 43 44 45 46 47 48 49 62 63 80 81 82",
+    ),
+];
+
+const RECEIVER_STATES: [[u8; 2]; 12] = [
+    [0, 0],
+    [1, 0],
+    [2, 0],
+    [3, 2],
+    [3, 3],
+    [3, 4],
+    [3, 8],
+    [3, 9],
+    [3, 11],
+    [3, 13],
+    [4, 0],
+    [5, 0],
+];
+
+const SENDER_STATES: [[u8; 4]; 21] = [
+    [0, 0, 0, 0],
+    [1, 0, 0, 0],
+    [2, 0, 0, 0],
+    [3, 0, 0, 0],
+    [3, 1, 0, 0],
+    [3, 2, 0, 0],
+    [4, 0, 0, 0],
+    [4, 1, 0, 0],
+    [4, 1, 1, 0],
+    [4, 1, 2, 0],
+    [4, 2, 0, 2],
+    [4, 2, 0, 3],
+    [4, 2, 0, 4],
+    [4, 2, 0, 5],
+    [4, 2, 0, 6],
+    [4, 2, 0, 7],
+    [4, 2, 0, 8],
+    [4, 2, 0, 9],
+    [4, 2, 0, 11],
+    [4, 2, 0, 13],
+    [5, 0, 0, 0],
+];
+
+pub const FULL_TRAIN: &str = "256 segments of 255 octets handed over";
+pub const LATE_RECEPTION: &str = "readings within 3 of 2^64 - 1 - 300,000";
+pub const LATE_SUBMISSION: &str = "readings within 3 of 2^64 - 1 - 330,000";
+pub const FULL_MAP: &str = "maps of 256 entries";
+pub const LONG_STORE: &str = "calls on A5 stores with octets past 65,280";
+pub const WIPED: &str = "stores wiped";
+pub const FROZEN_SENDER: &str = "senders of frozen plans";
+pub const FULL_SENDER: &str = "senders of 256 segments";
+
+const INPUTS: [(&str, &str); 9] = [
+    ("receiver", FULL_TRAIN),
+    ("receiver", LATE_RECEPTION),
+    ("receiver", FULL_MAP),
+    ("receiver", LONG_STORE),
+    ("receiver", WIPED),
+    ("sender", LATE_SUBMISSION),
+    ("sender", FULL_MAP),
+    ("sender", FROZEN_SENDER),
+    ("sender", FULL_SENDER),
+];
+
+fn receiver_state_name(state: [u8; 4]) -> String {
+    match state[0] {
+        0 => "AwaitingBegin".into(),
+        1 => "Receiving".into(),
+        2 => "Complete".into(),
+        3 => format!("Failed({})", crate::spell::status_name(state[1])),
+        4 => "Expired".into(),
+        _ => "Canceled".into(),
+    }
+}
+
+fn sender_state_name(state: [u8; 4]) -> String {
+    match state {
+        [0, ..] => "Prepared".into(),
+        [1, ..] => "AwaitingAccept".into(),
+        [2, ..] => "AwaitingResponse".into(),
+        [3, 0, ..] => "Complete(LowerLayerAccepted)".into(),
+        [3, 1, ..] => "Complete(PeerReceived)".into(),
+        [3, ..] => "Complete(ExceptionIntervalElapsed)".into(),
+        [4, 0, ..] => "Failed(SegmentInterval)".into(),
+        [4, 1, 0, _] => "Failed(LowerLayer(Rejected))".into(),
+        [4, 1, 1, _] => "Failed(LowerLayer(TimedOut))".into(),
+        [4, 1, ..] => "Failed(LowerLayer(Cancelled))".into(),
+        [4, _, _, status] => format!("Failed(Peer({}))", crate::spell::status_name(status)),
+        _ => "Cancelled".into(),
+    }
+}
+
+fn state_name(area: &str, state: [u8; 4]) -> String {
+    if area == "sender" {
+        sender_state_name(state)
+    } else {
+        receiver_state_name(state)
+    }
+}
+
+fn joined(items: impl Iterator<Item = (String, u64)>) -> String {
+    let items = items.map(|(name, count)| format!("{name} x{count}"));
+    items.collect::<Vec<_>>().join(", ")
+}
+
+impl Table {
+    pub fn print(&self) {
+        for (name, area) in &self.0 {
+            println!("{name}: {} cases", area.cases);
+            let refusals = area.refusals();
+            let refusals = joined(refusals.map(|(number, count)| (refusal_name(number), count)));
+            println!("  refusals: {refusals}");
+            if !area.states.is_empty() {
+                let states = area.states.iter();
+                println!(
+                    "  states: {}",
+                    joined(states.map(|(state, count)| (state_name(name, *state), *count)))
+                );
+            }
+            if !area.inputs.is_empty() {
+                let inputs = area.inputs.iter();
+                println!(
+                    "  inputs: {}",
+                    joined(inputs.map(|(name, count)| ((*name).to_owned(), *count)))
+                );
+            }
+        }
+    }
+
+    /// What a run has to see and did not.
+    pub fn missing(&self) -> Vec<String> {
+        let mut missing = Vec::new();
+        let empty = Area::default();
+        let area = |name: &str| self.0.get(name).unwrap_or(&empty);
+        for (name, wanted) in REFUSALS {
+            let seen: Vec<String> = area(name)
+                .refusals()
+                .map(|(number, _)| refusal_name(number))
+                .collect();
+            for refusal in wanted.split_whitespace() {
+                if !seen.iter().any(|seen| seen == refusal) {
+                    missing.push(format!("{name}: refusal {refusal}"));
+                }
+            }
+        }
+        for [state, status] in RECEIVER_STATES {
+            let state = [state, status, 0, 0];
+            if !area("receiver").states.contains_key(&state) {
+                missing.push(format!("receiver: state {}", receiver_state_name(state)));
+            }
+        }
+        for state in SENDER_STATES {
+            if !area("sender").states.contains_key(&state) {
+                missing.push(format!("sender: state {}", sender_state_name(state)));
+            }
+        }
+        for (name, input) in INPUTS {
+            if !area(name).inputs.contains_key(input) {
+                missing.push(format!("{name}: {input}"));
+            }
+        }
+        missing
+    }
+}
