@@ -1,18 +1,18 @@
-//! Says where the static libraries of the proved core are: in the folder that CATKHIZE_LIB_DIR names, or in target/staticlib of the
-//! repository, where `rt staticlib` puts them.
+//! Says where the proved core's static libraries are: in the folder that CATKHIZE_LIB_DIR names, or in target/staticlib of the repository,
+//! where `rt staticlib` puts them. Shared libraries in that folder are linked too.
 
 use std::path::{Path, PathBuf};
 use std::{env, fs, process};
 
-/// The `lib*.a` files of a folder, without `lib` and `.a`, in order.
-fn libraries(folder: &Path) -> Vec<String> {
+/// The `lib*` files of a folder that end in `suffix`, without both, in order.
+fn libraries(folder: &Path, suffix: &str) -> Vec<String> {
     let Ok(entries) = fs::read_dir(folder) else {
         return Vec::new();
     };
     let mut names: Vec<String> = entries
         .filter_map(|entry| {
             let name = entry.ok()?.file_name().into_string().ok()?;
-            Some(name.strip_prefix("lib")?.strip_suffix(".a")?.to_owned())
+            Some(name.strip_prefix("lib")?.strip_suffix(suffix)?.to_owned())
         })
         .collect();
     names.sort();
@@ -25,8 +25,9 @@ fn main() {
         || Path::new(env!("CARGO_MANIFEST_DIR")).join("../../target/staticlib"),
         PathBuf::from,
     );
-    let names = libraries(&folder);
-    if names.is_empty() {
+    let kinds = [("static", ".a"), ("dylib", ".so")]
+        .map(|(kind, suffix)| (kind, suffix, libraries(&folder, suffix)));
+    if kinds.iter().all(|(_, _, names)| names.is_empty()) {
         println!(
             "cargo::error=no static library in {}: build it with `rt staticlib` (README, 'How firmware links it'), or set CATKHIZE_LIB_DIR",
             folder.display()
@@ -35,11 +36,11 @@ fn main() {
     }
     println!("cargo::rerun-if-changed={}", folder.display());
     println!("cargo::rustc-link-search=native={}", folder.display());
-    for name in names {
-        println!(
-            "cargo::rerun-if-changed={}",
-            folder.join(format!("lib{name}.a")).display()
-        );
-        println!("cargo::rustc-link-lib=static={name}");
+    for (kind, suffix, names) in kinds {
+        for name in names {
+            let file = folder.join(format!("lib{name}{suffix}"));
+            println!("cargo::rerun-if-changed={}", file.display());
+            println!("cargo::rustc-link-lib={kind}={name}");
+        }
     }
 }

@@ -7,6 +7,7 @@
 
 mod buffers;
 mod codec;
+mod describe;
 mod plans;
 mod receiver;
 mod sender;
@@ -203,37 +204,17 @@ fn print_disagreement(disagreement: &Disagreement) {
         "DISAGREEMENT in {}: {}",
         disagreement.area, disagreement.what
     );
-    println!("the calls (op, then the input's octets as oracle/RECORDED.md lays them out):");
+    println!(
+        "the calls, each with its op and its input's octets as oracle/RECORDED.md lays them out:"
+    );
     for case in &disagreement.list {
         let octets: Vec<String> = case
             .input
             .iter()
             .map(|octet| format!("{octet:02x}"))
             .collect();
-        println!("  {:02x} {}: {}", case.op, name(case.op), octets.join(" "));
-    }
-}
-
-fn name(op: u8) -> &'static str {
-    match op {
-        0x01 => "decode",
-        0x02 => "encode",
-        0x10 => "plan_message",
-        0x11 => "try_from_frozen",
-        0x20 => "receiver try_new",
-        0x21 => "receive",
-        0x22 => "receiver advance",
-        0x23 => "receiver cancel",
-        receiver::TRAIN => "train",
-        0x30 => "sender try_new",
-        0x31 => "sender advance",
-        0x32 => "submitted",
-        0x33 => "accepted",
-        0x34 => "lower_failed",
-        0x35 => "receive_response",
-        0x36 => "sender try_new of a frozen plan",
-        0x37 => "sender cancel",
-        _ => "probe",
+        println!("  {}", describe::describe(case));
+        println!("    {:02x}: {}", case.op, octets.join(" "));
     }
 }
 

@@ -246,6 +246,49 @@ fn earlier(list: &[Case], by: u64) -> Option<Vec<Case>> {
     Some(list)
 }
 
+/// Where an op's input has a peer and a protocol, and where a transaction.
+fn origin(op: u8) -> (Option<usize>, Option<usize>) {
+    match op {
+        0x20 | 0x21 | 0x35 => (Some(0), Some(12)),
+        TRAIN => (Some(0), None),
+        0x30 => (Some(16), Some(13)),
+        0x36 => (Some(26), None),
+        _ => (None, None),
+    }
+}
+
+/// The list with the least peer and protocol, or the least transaction, in all calls that have the first call's.
+fn plainer(list: &[Case]) -> Vec<Vec<Case>> {
+    const LEAST: [u8; 12] = [0, 1, 0, 0, 0, 0, 0, 0, 0, 1, 0, 0];
+    let Some(first) = list.first() else {
+        return Vec::new();
+    };
+    let (peer, transaction) = origin(first.op);
+    let part = |case: &Case, at: Option<usize>, octets: usize| {
+        at.and_then(|at| case.input.get(at..at + octets).map(<[u8]>::to_vec))
+    };
+    let mut found = Vec::new();
+    for (own, octets, least) in [
+        (part(first, peer, 12), 12, &LEAST[..]),
+        (part(first, transaction, 1), 1, &LEAST[..1]),
+    ] {
+        let Some(own) = own.filter(|own| own != least) else {
+            continue;
+        };
+        let mut list = list.to_vec();
+        for case in &mut list {
+            let (peer, transaction) = origin(case.op);
+            let at = if octets == 1 { transaction } else { peer };
+            if part(case, at, octets).as_ref() == Some(&own) {
+                let at = at.unwrap_or(0);
+                case.input[at..at + octets].copy_from_slice(least);
+            }
+        }
+        found.push(list);
+    }
+    found
+}
+
 fn smaller_lists(list: &[Case]) -> Vec<Vec<Case>> {
     let mut found = Vec::new();
     for (from, to) in cuts(list.len()) {
@@ -261,6 +304,7 @@ fn smaller_lists(list: &[Case]) -> Vec<Vec<Case>> {
         found.extend(earlier(list, least));
         found.extend(earlier(list, least / 2));
     }
+    found.extend(plainer(list));
     for (place, case) in list.iter().enumerate() {
         for smaller in smaller(case) {
             let mut list = list.to_vec();
