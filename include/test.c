@@ -1,0 +1,422 @@
+/*
+ * Calls every entry of the core and checks what it gets; then says how much stack the calls took. tools/link builds and runs it, as C and
+ * as C++.
+ */
+#define _XOPEN_SOURCE 700
+
+#include "catkhize.h"
+
+#include <stdio.h>
+#include <stdlib.h>
+#include <string.h>
+#include <ucontext.h>
+
+#define FILLING 0xa5
+
+static unsigned checks;
+static unsigned failures;
+
+#define CHECK(condition)                                                       \
+    do {                                                                       \
+        checks++;                                                              \
+        if (!(condition)) {                                                    \
+            failures++;                                                        \
+            printf("line %d: %s\n", __LINE__, #condition);                     \
+        }                                                                      \
+    } while (0)
+
+static uint8_t record[CATKHIZE_RECEIVER_OCTETS];
+static uint8_t sender[CATKHIZE_SENDER_OCTETS];
+static uint8_t plan[CATKHIZE_PLAN_OCTETS];
+static uint8_t heads[CATKHIZE_HEADS_OCTETS];
+static uint8_t store[CATKHIZE_STORE_OCTETS + 8u];
+static uint8_t output[CATKHIZE_STORE_OCTETS];
+static uint8_t answer[64];
+
+static const uint8_t message[7] = {0x30, 0x31, 0x32, 0x33, 0x34, 0x35, 0x36};
+
+/* Every octet of a buffer is A5. */
+static int untouched(const uint8_t *octets, size_t count) {
+    size_t i;
+    for (i = 0; i < count; i++) {
+        if (octets[i] != FILLING) {
+            return 0;
+        }
+    }
+    return 1;
+}
+
+static int zero(const uint8_t *octets, size_t count) {
+    size_t i;
+    for (i = 0; i < count; i++) {
+        if (octets[i] != 0) {
+            return 0;
+        }
+    }
+    return 1;
+}
+
+static void fill(uint8_t *octets, size_t count) { memset(octets, FILLING, count); }
+
+/* A SEGMENT without parameters. */
+static void segment_of(uint8_t *segment, uint8_t transaction, uint8_t sequence, uint8_t kind) {
+    memset(segment, 0, CATKHIZE_SEGMENT_OCTETS);
+    segment[CATKHIZE_SEGMENT_AT_TRANSACTION] = transaction;
+    segment[CATKHIZE_SEGMENT_AT_SEQUENCE] = sequence;
+    segment[CATKHIZE_SEGMENT_AT_KIND] = kind;
+}
+
+/* A SEGMENT of a Begin that asks for a window. */
+static void begin_of(uint8_t *segment, uint8_t transaction, uint8_t window) {
+    segment_of(segment, transaction, 0, CATKHIZE_KIND_BEGIN);
+    segment[CATKHIZE_SEGMENT_AT_SERVICES_PRESENT] = 1;
+    segment[CATKHIZE_SEGMENT_AT_WINDOW] = window;
+}
+
+static void test_numbers(void) {
+    uint8_t octets[8];
+    CHECK(CATKHIZE_FIELD_BEGIN_SEQUENCE_NUMBER == 1539u);
+    CHECK(CATKHIZE_CLOSED == 9728u);
+    CHECK(CATKHIZE_REFUSAL_N(1539u) == 6u && CATKHIZE_REFUSAL_M(1539u) == 3u);
+    CHECK(CATKHIZE_IS_REFUSAL(CATKHIZE_VERSION) && !CATKHIZE_IS_REFUSAL(CATKHIZE_NOTHING));
+    catkhize_put64(octets, 0x0123456789abcdefu);
+    CHECK(octets[0] == 0x01 && octets[7] == 0xef);
+    CHECK(catkhize_get64(octets) == 0x0123456789abcdefu);
+    CHECK(catkhize_get32(octets) == 0x01234567u && catkhize_get16(octets + 2) == 0x4567u);
+}
+
+static void test_encode(void) {
+    static const uint8_t data[2] = {0x41, 0x42};
+    static const uint8_t expected[5] = {0x0b, 0x01, 0x02, 0x41, 0x42};
+    uint8_t segment[CATKHIZE_SEGMENT_OCTETS];
+    segment_of(segment, 3, 1, CATKHIZE_KIND_CONTINUE);
+    fill(output, 8);
+    fill(answer, sizeof answer);
+    CHECK(catkhize_encode(segment, sizeof segment, data, 2, 1, output, 8, answer, sizeof answer) == CATKHIZE_DONE);
+    CHECK(catkhize_get64(answer) == 5 && untouched(answer + 8, sizeof answer - 8));
+    CHECK(memcmp(output, expected, 5) == 0 && untouched(output + 5, 3));
+
+    fill(output, 8);
+    fill(answer, sizeof answer);
+    CHECK(catkhize_encode(segment, sizeof segment, data, 2, 1, output, 4, answer, sizeof answer) == CATKHIZE_OUTPUT_TOO_SHORT);
+    CHECK(catkhize_encode(segment, sizeof segment, data, 2, 0, output, 8, answer, sizeof answer) == CATKHIZE_VERSION);
+    CHECK(catkhize_encode(segment, 14, data, 2, 1, output, 8, answer, sizeof answer) == CATKHIZE_BUFFER_TOO_SHORT);
+    CHECK(catkhize_encode(segment, sizeof segment, data, 2, 1, output, 8, answer, 7) == CATKHIZE_BUFFER_TOO_SHORT);
+    segment[CATKHIZE_SEGMENT_AT_KIND] = 3;
+    CHECK(catkhize_encode(segment, sizeof segment, data, 2, 1, output, 8, answer, sizeof answer) == CATKHIZE_BUFFER_SPELLS_NONE);
+    segment[CATKHIZE_SEGMENT_AT_KIND] = CATKHIZE_KIND_BEGIN;
+    CHECK(catkhize_encode(segment, sizeof segment, data, 2, 1, output, 8, answer, sizeof answer) == CATKHIZE_FIELD_BEGIN_SEQUENCE_NUMBER);
+    CHECK(untouched(output, 8) && untouched(answer, sizeof answer));
+}
+
+static void test_decode(void) {
+    static const uint8_t octets[6] = {0x10, 0x01, 0x00, 0x21, 0x23, 0x40};
+    static const uint8_t unparsed[5] = {0x08, 0x01, 0x00, 0x20, 0x08};
+    fill(answer, sizeof answer);
+    CHECK(catkhize_decode(octets, 6, 1, answer, CATKHIZE_DECODED_OCTETS) == CATKHIZE_DONE);
+    CHECK(answer[CATKHIZE_SEGMENT_AT_KIND] == CATKHIZE_KIND_END);
+    CHECK(answer[CATKHIZE_SEGMENT_AT_CRC_KIND] == CATKHIZE_CRC_16);
+    CHECK(catkhize_get32(answer + CATKHIZE_SEGMENT_AT_CRC) == 0x1234u);
+    CHECK(catkhize_get64(answer + CATKHIZE_HEAD_AT_DATA_LENGTH) == 0);
+    CHECK(catkhize_get64(answer + CATKHIZE_DECODED_AT_UNPARSED) == 0);
+    CHECK(untouched(answer + CATKHIZE_DECODED_OCTETS, sizeof answer - CATKHIZE_DECODED_OCTETS));
+    CHECK(catkhize_decode(unparsed, 5, 1, answer, CATKHIZE_DECODED_OCTETS) == CATKHIZE_DONE);
+    CHECK(catkhize_get64(answer + CATKHIZE_DECODED_AT_UNPARSED) == 2);
+    fill(answer, sizeof answer);
+    CHECK(catkhize_decode(octets, 5, 1, answer, CATKHIZE_DECODED_OCTETS) == CATKHIZE_TRUNCATED);
+    CHECK(catkhize_decode(octets, 6, 1, answer, CATKHIZE_DECODED_OCTETS - 1u) == CATKHIZE_BUFFER_TOO_SHORT);
+    CHECK(untouched(answer, sizeof answer));
+}
+
+static void test_plan(void) {
+    static const uint64_t lengths[3] = {1, 3, 3};
+    static const uint64_t offsets[3] = {0, 1, 4};
+    uint8_t i;
+    fill(plan, sizeof plan);
+    CHECK(catkhize_plan_message(message, 7, 7, 0, CATKHIZE_WINDOW_PROHIBITED, 1, 7, plan, sizeof plan) == CATKHIZE_NOTHING);
+    CHECK(catkhize_plan_message(message, 7, 6, 0, CATKHIZE_WINDOW_PROHIBITED, 1, 5, plan, sizeof plan) == CATKHIZE_PAYLOAD_BUDGET);
+    CHECK(catkhize_plan_message(message, 7, 3, 0, CATKHIZE_WINDOW_PROHIBITED, 1, 5, plan, sizeof plan) == CATKHIZE_HEADER_CAPACITY);
+    CHECK(catkhize_plan_message(message, 7, 6, 0, 6, 1, 6, plan, sizeof plan) == CATKHIZE_NUMBER_NAMES_NONE);
+    CHECK(catkhize_plan_message(message, 7, 6, 0, CATKHIZE_WINDOW_PROHIBITED, 1, 6, plan, sizeof plan - 1) == CATKHIZE_BUFFER_TOO_SHORT);
+    CHECK(untouched(plan, sizeof plan));
+    CHECK(catkhize_plan_message(message, 7, 6, 0, CATKHIZE_WINDOW_PROHIBITED, 1, 6, plan, sizeof plan) == CATKHIZE_DONE);
+    CHECK(plan[0] == CATKHIZE_LAYOUT_VERSION && plan[CATKHIZE_PLAN_AT_FORM] == CATKHIZE_PLAN_PLANNED);
+    CHECK(catkhize_get64(plan + CATKHIZE_PLAN_AT_COUNT) == 3);
+    CHECK(plan[CATKHIZE_PLAN_AT_STATES_LENGTH] == 1);
+    for (i = 0; i < 3; i++) {
+        fill(answer, sizeof answer);
+        CHECK(catkhize_plan_segment(plan, sizeof plan, i, answer, CATKHIZE_PART_OCTETS) == CATKHIZE_DONE);
+        CHECK(answer[CATKHIZE_SEGMENT_AT_SEQUENCE] == i);
+        CHECK(catkhize_get64(answer + CATKHIZE_HEAD_AT_DATA_LENGTH) == lengths[i]);
+        CHECK(catkhize_get64(answer + CATKHIZE_PART_AT_OFFSET) == offsets[i]);
+    }
+    CHECK(catkhize_get16(answer + CATKHIZE_SEGMENT_AT_LENGTH) == 0 && answer[CATKHIZE_SEGMENT_AT_KIND] == CATKHIZE_KIND_END);
+    fill(answer, sizeof answer);
+    CHECK(catkhize_plan_segment(plan, sizeof plan, 3, answer, CATKHIZE_PART_OCTETS) == CATKHIZE_NOTHING);
+    CHECK(catkhize_plan_segment(plan, sizeof plan, 0, answer, CATKHIZE_PART_OCTETS - 1u) == CATKHIZE_BUFFER_TOO_SHORT);
+    plan[0] = 2;
+    CHECK(catkhize_plan_segment(plan, sizeof plan, 0, answer, CATKHIZE_PART_OCTETS) == CATKHIZE_BUFFER_SPELLS_NONE);
+    plan[0] = CATKHIZE_LAYOUT_VERSION;
+    CHECK(untouched(answer, sizeof answer));
+}
+
+/* The plan's own segments, given as a frozen cutting. */
+static void test_frozen(void) {
+    static uint8_t frozen[CATKHIZE_PLAN_OCTETS];
+    static const uint8_t other[7] = {0x30, 0x31, 0x32, 0x33, 0x34, 0x35, 0x37};
+    uint8_t i;
+    memset(heads, 0, sizeof heads);
+    for (i = 0; i < 3; i++) {
+        CHECK(catkhize_plan_segment(plan, sizeof plan, i, answer, sizeof answer) == CATKHIZE_DONE);
+        memcpy(heads + CATKHIZE_HEAD_OCTETS * i, answer, CATKHIZE_HEAD_OCTETS);
+    }
+    fill(frozen, sizeof frozen);
+    CHECK(catkhize_try_from_frozen(heads, sizeof heads, 3, message, 7, other, 7, 6, 1, 6, frozen, sizeof frozen) == CATKHIZE_FROZEN_PLAN);
+    CHECK(catkhize_try_from_frozen(heads, sizeof heads, 3, message, 6, message, 7, 6, 1, 6, frozen, sizeof frozen) == CATKHIZE_JOINED_LENGTH);
+    CHECK(catkhize_try_from_frozen(heads, sizeof heads, 1, message, 7, message, 7, 6, 1, 6, frozen, sizeof frozen) == CATKHIZE_SEGMENT_COUNT);
+    CHECK(catkhize_try_from_frozen(heads, sizeof heads - 1, 3, message, 7, message, 7, 6, 1, 6, frozen, sizeof frozen) == CATKHIZE_BUFFER_TOO_SHORT);
+    CHECK(untouched(frozen, sizeof frozen));
+    CHECK(catkhize_try_from_frozen(heads, sizeof heads, 3, message, 7, message, 7, 6, 1, 6, frozen, sizeof frozen) == CATKHIZE_DONE);
+    CHECK(frozen[CATKHIZE_PLAN_AT_FORM] == CATKHIZE_PLAN_FROZEN);
+    CHECK(catkhize_get64(frozen + CATKHIZE_PLAN_AT_FROZEN_COUNT) == 3);
+    CHECK(memcmp(frozen + CATKHIZE_PLAN_AT_FROZEN_HEADS, heads, sizeof heads) == 0);
+    CHECK(catkhize_plan_segment(frozen, sizeof frozen, 2, answer, sizeof answer) == CATKHIZE_DONE);
+    CHECK(catkhize_get64(answer + CATKHIZE_PART_AT_OFFSET) == 4);
+}
+
+#define PEER 0, 34, 5
+#define PROTOCOL CATKHIZE_PROTOCOL_SEGMENTED, 1
+
+static uint32_t receive(const uint8_t *segment, const uint8_t *data, size_t octets, uint64_t reading) {
+    fill(answer, sizeof answer);
+    return catkhize_receiver_receive(record, sizeof record, store, sizeof store, output, sizeof output, PEER, PROTOCOL, segment,
+        CATKHIZE_SEGMENT_OCTETS, data, octets, 0, reading, answer, sizeof answer);
+}
+
+static void new_receiver(uint64_t reading) {
+    fill(record, sizeof record);
+    fill(store, sizeof store);
+    fill(output, sizeof output);
+    CHECK(catkhize_receiver_new(record, sizeof record, PEER, PROTOCOL, 2, 1, CATKHIZE_STORE_OCTETS, reading) == CATKHIZE_DONE);
+    CHECK(record[CATKHIZE_RECEIVER_AT_STATE] == CATKHIZE_RECEIVER_AWAITING_BEGIN);
+    CHECK(untouched(store, sizeof store) && untouched(output, sizeof output));
+}
+
+static void test_receiver(void) {
+    uint8_t segment[CATKHIZE_SEGMENT_OCTETS];
+    fill(record, sizeof record);
+    CHECK(catkhize_receiver_new(record, sizeof record, 0, 34, 0, PROTOCOL, 2, 1, 100, 0) == CATKHIZE_IDENTITY);
+    CHECK(catkhize_receiver_new(record, sizeof record, PEER, CATKHIZE_PROTOCOL_OTHER, 0, 2, 1, 100, 0) == CATKHIZE_SERVICE);
+    CHECK(catkhize_receiver_new(record, sizeof record, PEER, 3, 0, 2, 1, 100, 0) == CATKHIZE_NUMBER_NAMES_NONE);
+    CHECK(catkhize_receiver_new(record, sizeof record - 1, PEER, PROTOCOL, 2, 1, 100, 0) == CATKHIZE_BUFFER_TOO_SHORT);
+    CHECK(untouched(record, sizeof record));
+
+    new_receiver(1000);
+    segment_of(segment, 2, 1, CATKHIZE_KIND_END);
+    CHECK(receive(segment, message + 4, 3, 1000) == CATKHIZE_BEGIN_REQUIRED);
+    CHECK(untouched(answer, sizeof answer) && untouched(store, sizeof store));
+    begin_of(segment, 2, CATKHIZE_WINDOW_LAST);
+    CHECK(receive(segment, message, 4, 1000) == CATKHIZE_DONE);
+    CHECK(zero(answer, CATKHIZE_RECEPTION_OCTETS) && untouched(answer + CATKHIZE_RECEPTION_OCTETS, 13));
+    CHECK(memcmp(store, message, 4) == 0 && untouched(store + 4, sizeof store - 4));
+    CHECK(record[CATKHIZE_RECEIVER_AT_STATE] == CATKHIZE_RECEIVER_RECEIVING);
+    CHECK(catkhize_get64(record + CATKHIZE_RECEIVER_AT_STORED_OCTETS) == 4);
+    CHECK(record[CATKHIZE_RECEIVER_AT_DEADLINE_RUNS] == 1);
+    CHECK(catkhize_get64(record + CATKHIZE_RECEIVER_AT_DEADLINE) == 301000u);
+    CHECK(catkhize_entry(record + CATKHIZE_RECEIVER_AT_HELD, 0) && !catkhize_entry(record + CATKHIZE_RECEIVER_AT_HELD, 1));
+    segment_of(segment, 2, 1, CATKHIZE_KIND_END);
+    CHECK(receive(segment, message + 4, 3, 2000) == CATKHIZE_DONE);
+    CHECK(answer[CATKHIZE_RECEPTION_AT_PRESENT] == 1);
+    CHECK(answer[CATKHIZE_RECEPTION_AT_RESPONSE + CATKHIZE_RESPONSE_AT_STATUS] == CATKHIZE_STATUS_RECEIVED);
+    CHECK(catkhize_get16(answer + CATKHIZE_RECEPTION_AT_RESPONSE + CATKHIZE_RESPONSE_AT_ENTRIES) == 2);
+    CHECK(catkhize_entry(answer + CATKHIZE_RECEPTION_AT_RESPONSE + CATKHIZE_RESPONSE_AT_MAP, 1));
+    CHECK(answer[CATKHIZE_RECEPTION_AT_HANDED_OVER] == 1);
+    CHECK(catkhize_get64(answer + CATKHIZE_RECEPTION_AT_MESSAGE_OCTETS) == 7);
+    CHECK(memcmp(output, message, 7) == 0 && untouched(output + 7, sizeof output - 7));
+    CHECK(record[CATKHIZE_RECEIVER_AT_STATE] == CATKHIZE_RECEIVER_COMPLETE);
+    CHECK(catkhize_receiver_cancel(record, sizeof record, store, sizeof store, 2000) == CATKHIZE_CLOSED);
+    CHECK(catkhize_receiver_cancel(record, sizeof record, store, CATKHIZE_STORE_OCTETS - 1u, 2000) == CATKHIZE_STORE_TOO_SHORT);
+    record[CATKHIZE_RECEIVER_AT_STORED_OCTETS + 7] = 8;
+    CHECK(catkhize_receiver_cancel(record, sizeof record, store, sizeof store, 2000) == CATKHIZE_IMPOSSIBLE_STATE);
+}
+
+static void test_receiver_time(void) {
+    uint8_t segment[CATKHIZE_SEGMENT_OCTETS];
+    new_receiver(0);
+    begin_of(segment, 2, CATKHIZE_WINDOW_EVERY4);
+    CHECK(receive(segment, message, 1, 0) == CATKHIZE_DONE);
+    fill(answer, sizeof answer);
+    CHECK(catkhize_receiver_advance(record, sizeof record, store, sizeof store, 299999, answer, sizeof answer) == CATKHIZE_DONE);
+    CHECK(zero(answer, CATKHIZE_REPLY_OCTETS) && untouched(answer + CATKHIZE_REPLY_OCTETS, 22));
+    CHECK(catkhize_receiver_advance(record, sizeof record, store, sizeof store, 300000, answer, sizeof answer) == CATKHIZE_DONE);
+    CHECK(answer[CATKHIZE_REPLY_AT_PRESENT] == 1);
+    CHECK(answer[CATKHIZE_REPLY_AT_RESPONSE + CATKHIZE_RESPONSE_AT_STATUS] == CATKHIZE_STATUS_INTER_SEGMENT_TIMEOUT);
+    CHECK(catkhize_receiver_advance(record, sizeof record, store, sizeof store, 299999, answer, sizeof answer) == CATKHIZE_CLOCK_REGRESSION);
+    CHECK(catkhize_receiver_cancel(record, sizeof record, store, sizeof store, 300000) == CATKHIZE_DONE);
+    CHECK(record[CATKHIZE_RECEIVER_AT_STATE] == CATKHIZE_RECEIVER_CANCELED);
+    CHECK(zero(store, CATKHIZE_STORE_OCTETS) && untouched(store + CATKHIZE_STORE_OCTETS, 8));
+    CHECK(receive(segment, message, 1, 300000) == CATKHIZE_CLOSED);
+}
+
+static void test_train(void) {
+    static const uint8_t octets[12] = {0x02, 0x00, 0x01, 0x41, 0x12, 0x01, 0x01, 0x42, 0x0a, 0x02, 0x01, 0x43};
+    uint8_t lengths[6];
+    catkhize_put16(lengths, 4);
+    catkhize_put16(lengths + 2, 4);
+    catkhize_put16(lengths + 4, 9);
+    new_receiver(0);
+    fill(answer, sizeof answer);
+    CHECK(catkhize_receiver_train(record, sizeof record, store, sizeof store, output, sizeof output, PEER, PROTOCOL, octets, sizeof octets,
+              lengths, 4, 7, answer, sizeof answer) == CATKHIZE_DONE);
+    CHECK(catkhize_get64(answer + CATKHIZE_TRAIN_AT_RECEIVED) == 2);
+    CHECK(answer[CATKHIZE_TRAIN_AT_RECEPTION + CATKHIZE_RECEPTION_AT_HANDED_OVER] == 1);
+    CHECK(output[0] == 0x41 && output[1] == 0x42 && untouched(output + 2, sizeof output - 2));
+    CHECK(untouched(answer + CATKHIZE_TRAIN_OCTETS, sizeof answer - CATKHIZE_TRAIN_OCTETS));
+
+    new_receiver(0);
+    CHECK(catkhize_receiver_train(record, sizeof record, store, sizeof store, output, sizeof output, PEER, PROTOCOL, octets, sizeof octets,
+              lengths, 6, 7, answer, sizeof answer) == CATKHIZE_CLOSED);
+    CHECK(catkhize_get64(answer + CATKHIZE_TRAIN_AT_RECEIVED) == 2);
+    CHECK(record[CATKHIZE_RECEIVER_AT_STATE] == CATKHIZE_RECEIVER_COMPLETE);
+}
+
+#define NUMBER 77u
+
+static uint32_t submission(void) {
+    fill(answer, sizeof answer);
+    return catkhize_sender_submission(sender, sizeof sender, answer, CATKHIZE_SUBMISSION_OCTETS);
+}
+
+static void new_sender(uint8_t window) {
+    CHECK(catkhize_plan_message(message, 7, 6, 2, window, 1, 6, plan, sizeof plan) == CATKHIZE_DONE);
+    fill(sender, sizeof sender);
+    CHECK(catkhize_sender_new(sender, sizeof sender, PEER, PROTOCOL, plan, sizeof plan, message, 7, 1, NUMBER, 0) == CATKHIZE_DONE);
+    CHECK(sender[CATKHIZE_SENDER_AT_STATE] == CATKHIZE_SENDER_PREPARED);
+}
+
+/* Layer 3 takes and accepts what is offered, at the reading 10. */
+static void send_one(uint64_t ticket) {
+    uint8_t state[CATKHIZE_STATE_OCTETS];
+    CHECK(submission() == CATKHIZE_DONE);
+    CHECK(catkhize_get64(answer + CATKHIZE_SUBMISSION_AT_NUMBER) == NUMBER);
+    CHECK(catkhize_get64(answer + CATKHIZE_SUBMISSION_AT_TICKET) == ticket);
+    CHECK(answer[CATKHIZE_SUBMISSION_AT_INDEX] == ticket);
+    CHECK(answer[CATKHIZE_SUBMISSION_AT_HEAD + CATKHIZE_SEGMENT_AT_TRANSACTION] == 2);
+    CHECK(catkhize_sender_submitted(sender, sizeof sender, NUMBER, ticket, 10, 10, state, sizeof state) == CATKHIZE_DONE);
+    CHECK(state[0] == CATKHIZE_SENDER_AWAITING_ACCEPT);
+    CHECK(submission() == CATKHIZE_NOTHING && untouched(answer, sizeof answer));
+    CHECK(catkhize_sender_accepted(sender, sizeof sender, NUMBER + 1, ticket, 10, state, sizeof state) == CATKHIZE_STALE_SUBMISSION);
+    CHECK(catkhize_sender_accepted(sender, sizeof sender, NUMBER, ticket, 10, state, sizeof state) == CATKHIZE_DONE);
+}
+
+static void test_sender(void) {
+    uint8_t state[CATKHIZE_STATE_OCTETS];
+    uint8_t response[CATKHIZE_RESPONSE_OCTETS];
+    uint64_t count;
+    new_sender(CATKHIZE_WINDOW_LAST);
+    fill(sender, sizeof sender);
+    CHECK(catkhize_sender_new(sender, sizeof sender, PEER, PROTOCOL, plan, sizeof plan, message, 6, 1, NUMBER, 0) == CATKHIZE_PLAN);
+    CHECK(catkhize_sender_new(sender, sizeof sender, PEER, PROTOCOL, plan, sizeof plan - 1, message, 7, 1, NUMBER, 0) == CATKHIZE_BUFFER_TOO_SHORT);
+    CHECK(untouched(sender, sizeof sender));
+    new_sender(CATKHIZE_WINDOW_LAST);
+    CHECK(catkhize_get64(plan + CATKHIZE_PLAN_AT_COUNT) == 3);
+    for (count = 0; count < 3; count++) {
+        send_one(count);
+    }
+    CHECK(sender[CATKHIZE_SENDER_AT_STATE] == CATKHIZE_SENDER_AWAITING_RESPONSE);
+    CHECK(catkhize_get64(sender + CATKHIZE_SENDER_AT_SUBMISSIONS) == 3);
+    CHECK(catkhize_entry(sender + CATKHIZE_SENDER_AT_SUBMITTED, 2) && !catkhize_entry(sender + CATKHIZE_SENDER_AT_SUBMITTED, 3));
+
+    /* Segment 1 is missing. */
+    memset(response, 0, sizeof response);
+    response[CATKHIZE_RESPONSE_AT_TRANSACTION] = 2;
+    catkhize_put16(response + CATKHIZE_RESPONSE_AT_ENTRIES, 3);
+    catkhize_put64(response + CATKHIZE_RESPONSE_AT_MAP, 0x5u);
+    CHECK(catkhize_sender_receive_response(sender, sizeof sender, 1, 34, 5, PROTOCOL, response, sizeof response, 0, 20, state, sizeof state) == CATKHIZE_PEER);
+    CHECK(catkhize_sender_receive_response(sender, sizeof sender, PEER, PROTOCOL, response, sizeof response, 0, 20, state, sizeof state) == CATKHIZE_DONE);
+    CHECK(state[0] == CATKHIZE_SENDER_PREPARED);
+    CHECK(submission() == CATKHIZE_DONE && answer[CATKHIZE_SUBMISSION_AT_INDEX] == 1);
+    CHECK(catkhize_get64(answer + CATKHIZE_SUBMISSION_AT_TICKET) == 3);
+    CHECK(catkhize_get64(answer + CATKHIZE_SUBMISSION_AT_OFFSET) == 1);
+    response[CATKHIZE_RESPONSE_AT_STATUS] = CATKHIZE_STATUS_RECEIVED;
+    catkhize_put64(response + CATKHIZE_RESPONSE_AT_MAP, 0x7u);
+    CHECK(catkhize_sender_receive_response(sender, sizeof sender, PEER, PROTOCOL, response, sizeof response, 0, 30, state, sizeof state) == CATKHIZE_DONE);
+    CHECK(state[CATKHIZE_STATE_AT_STATE] == CATKHIZE_SENDER_COMPLETE);
+    CHECK(state[CATKHIZE_STATE_AT_COMPLETION] == CATKHIZE_COMPLETE_PEER_RECEIVED);
+    CHECK(catkhize_sender_cancel(sender, sizeof sender, 31, state, sizeof state) == CATKHIZE_DONE && state[0] == CATKHIZE_SENDER_COMPLETE);
+}
+
+static void test_sender_ends(void) {
+    uint8_t state[CATKHIZE_STATE_OCTETS];
+    new_sender(CATKHIZE_WINDOW_PROHIBITED);
+    CHECK(catkhize_sender_submitted(sender, sizeof sender, NUMBER, 0, 5, 5, state, sizeof state) == CATKHIZE_DONE);
+    CHECK(catkhize_sender_lower_failed(sender, sizeof sender, NUMBER, 0, 3, 0, 6, state, sizeof state) == CATKHIZE_NUMBER_NAMES_NONE);
+    CHECK(catkhize_sender_lower_failed(sender, sizeof sender, NUMBER, 0, CATKHIZE_LOWER_LAYER_REJECTED, 9, 6, state, sizeof state) == CATKHIZE_DONE);
+    CHECK(state[0] == CATKHIZE_SENDER_FAILED && state[CATKHIZE_STATE_AT_FAILURE] == CATKHIZE_FAILED_LOWER_LAYER);
+    CHECK(state[CATKHIZE_STATE_AT_LOWER_LAYER] == CATKHIZE_LOWER_LAYER_REJECTED && state[CATKHIZE_STATE_AT_VALUE] == 9);
+
+    new_sender(CATKHIZE_WINDOW_PROHIBITED);
+    CHECK(catkhize_sender_submitted(sender, sizeof sender, NUMBER, 0, 5, 5, state, sizeof state) == CATKHIZE_DONE);
+    fill(state, sizeof state);
+    CHECK(catkhize_sender_accepted(sender, sizeof sender, NUMBER, 0, 330005, state, sizeof state) == CATKHIZE_STALE_SUBMISSION);
+    CHECK(untouched(state, sizeof state) && sender[CATKHIZE_SENDER_AT_STATE] == CATKHIZE_SENDER_FAILED);
+
+    new_sender(CATKHIZE_WINDOW_EXCEPTIONS);
+    CHECK(catkhize_sender_advance(sender, sizeof sender, 100, state, sizeof state) == CATKHIZE_DONE && state[0] == CATKHIZE_SENDER_PREPARED);
+    CHECK(catkhize_sender_advance(sender, sizeof sender, 99, state, sizeof state) == CATKHIZE_CLOCK_REGRESSION);
+    CHECK(catkhize_sender_advance(sender, sizeof sender, 100, state, 3) == CATKHIZE_BUFFER_TOO_SHORT);
+    sender[0] = 0;
+    CHECK(catkhize_sender_advance(sender, sizeof sender, 100, state, sizeof state) == CATKHIZE_BUFFER_SPELLS_NONE);
+    sender[0] = CATKHIZE_LAYOUT_VERSION;
+    CHECK(catkhize_sender_cancel(sender, sizeof sender, 100, state, sizeof state) == CATKHIZE_DONE && state[0] == CATKHIZE_SENDER_CANCELLED);
+}
+
+static void run(void) {
+    test_numbers();
+    test_encode();
+    test_decode();
+    test_plan();
+    test_frozen();
+    test_receiver();
+    test_receiver_time();
+    test_train();
+    test_sender();
+    test_sender_ends();
+}
+
+/* The tests run on a stack of their own, which was filled before. */
+#define STACK (4u * 1024u * 1024u)
+
+static ucontext_t outside, inside;
+
+/* How many octets of a filled stack were written, from its high end down. */
+static size_t taken(const uint8_t *stack) {
+    size_t free_octets = 0;
+    while (free_octets < STACK && stack[free_octets] == FILLING) {
+        free_octets++;
+    }
+    return STACK - free_octets;
+}
+
+static int run_on(uint8_t *stack) {
+    fill(stack, STACK);
+    if (getcontext(&inside) != 0) {
+        return -1;
+    }
+    inside.uc_stack.ss_sp = stack;
+    inside.uc_stack.ss_size = STACK;
+    inside.uc_link = &outside;
+    makecontext(&inside, run, 0);
+    return swapcontext(&outside, &inside);
+}
+
+int main(void) {
+    uint8_t *stack = (uint8_t *)malloc(STACK);
+    if (stack == NULL || run_on(stack) != 0) {
+        return EXIT_FAILURE;
+    }
+    CHECK(taken(stack) <= CATKHIZE_STACK_OCTETS);
+    printf("%u checks, %u failures, %lu octets of stack\n", checks, failures, (unsigned long)taken(stack));
+    free(stack);
+    return failures == 0 ? EXIT_SUCCESS : EXIT_FAILURE;
+}

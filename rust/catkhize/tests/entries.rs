@@ -1,0 +1,412 @@
+//! Calls every entry, with right buffers and wrong ones, and the typed layer with whatever its types allow.
+
+use catkhize::calls::{self, Origin};
+use catkhize::*;
+
+const FILLING: u8 = 0xa5;
+const PEER: MobileIdentity = MobileIdentity {
+    kind: 1,
+    width: 34,
+    value: 5,
+};
+const PROTOCOL: HigherLayerProtocol = HigherLayerProtocol::CarrierSpecific(0xc1);
+const MESSAGE: &[u8] = b"0123456";
+
+fn filled(octets: usize) -> Vec<u8> {
+    vec![FILLING; octets]
+}
+
+fn untouched(octets: &[u8]) -> bool {
+    octets.iter().all(|octet| *octet == FILLING)
+}
+
+fn origin() -> Origin {
+    Origin::new(PEER, PROTOCOL)
+}
+
+fn refusal(given: u32) -> Refusal {
+    match Given::new(given) {
+        Given::Refused(refusal) => refusal,
+        other => panic!("{other:?} is no refusal"),
+    }
+}
+
+fn number(octets: &[u8]) -> u64 {
+    octets
+        .iter()
+        .fold(0, |value, octet| value << 8 | u64::from(*octet))
+}
+
+/// A SEGMENT without parameters.
+fn segment(transaction: u8, sequence: u8, kind: u8) -> [u8; layout::SEGMENT] {
+    let mut segment = [0; layout::SEGMENT];
+    segment[..3].copy_from_slice(&[transaction, sequence, kind]);
+    segment
+}
+
+fn plan(window: u8) -> Vec<u8> {
+    let mut plan = filled(layout::PLAN);
+    assert_eq!(
+        calls::plan_message(MESSAGE, 6, 2, window, 1, 6, &mut plan),
+        0
+    );
+    plan
+}
+
+fn receiver(maximum: u64) -> Vec<u8> {
+    let mut record = filled(layout::RECEIVER);
+    let given = calls::receiver_new(&mut record, origin(), 2, 1, maximum, 100);
+    assert_eq!(given, 0);
+    record
+}
+
+fn sender(window: u8) -> Vec<u8> {
+    let mut record = filled(layout::SENDER);
+    let given = calls::sender_new(&mut record, origin(), &plan(window), MESSAGE, 1, 9, 100);
+    assert_eq!(given, 0);
+    record
+}
+
+#[test]
+fn encode() {
+    let mut output = filled(8);
+    let mut answer = filled(layout::WRITTEN);
+    let right = segment(3, 1, 1);
+    let given = calls::encode(&right, b"AB", 1, &mut output, &mut answer);
+    assert_eq!((given, number(&answer)), (0, 5));
+    assert_eq!(output, [0x0b, 1, 2, 0x41, 0x42, FILLING, FILLING, FILLING]);
+    let mut output = filled(8);
+    let mut answer = filled(layout::WRITTEN);
+    let mut refused = |segment: &[u8], data: &[u8], version, room: usize| {
+        let given = calls::encode(segment, data, version, &mut output[..room], &mut answer);
+        assert!(untouched(&output) && untouched(&answer));
+        refusal(given)
+    };
+    assert_eq!(refused(&right, b"AB", 1, 4), Refusal::OUTPUT_TOO_SHORT);
+    assert_eq!(refused(&right, b"AB", 0, 8), Refusal::VERSION);
+    assert_eq!(
+        refused(&right, &[0; 256], 1, 8),
+        Refusal::SEGMENT_DATA_LENGTH
+    );
+    assert_eq!(
+        refused(&segment(0, 1, 0), &[], 1, 8),
+        Refusal::BEGIN_SEQUENCE_NUMBER
+    );
+    for octets in 0..layout::SEGMENT {
+        assert_eq!(
+            refused(&right[..octets], b"AB", 0, 8),
+            Refusal::BUFFER_TOO_SHORT
+        );
+    }
+    assert_eq!(
+        refused(&segment(0, 1, 3), &[], 0, 8),
+        Refusal::BUFFER_SPELLS_NONE
+    );
+}
+
+#[test]
+fn decode() {
+    let mut answer = filled(layout::DECODED);
+    assert_eq!(calls::decode(&[8, 1, 0, 0x20, 8], 1, &mut answer), 0);
+    assert_eq!((answer[2], number(&answer[23..])), (1, 2));
+    let mut answer = filled(layout::DECODED);
+    assert_eq!(
+        refusal(calls::decode(&[0x40], 1, &mut answer)),
+        Refusal::PROTOCOL
+    );
+    assert!(untouched(&answer));
+    for octets in 0..layout::DECODED {
+        let given = calls::decode(&[], 0, &mut answer[..octets]);
+        assert_eq!(refusal(given), Refusal::BUFFER_TOO_SHORT);
+    }
+    assert!(untouched(&answer));
+}
+
+#[test]
+fn plans() {
+    let record = plan(0);
+    let mut answer = filled(layout::PART);
+    assert_eq!(calls::plan_segment(&record, 2, &mut answer), 0);
+    assert_eq!((number(&answer[15..23]), number(&answer[23..])), (3, 4));
+    let mut answer = filled(layout::PART);
+    assert_eq!(calls::plan_segment(&record, 3, &mut answer), 1);
+    let short = calls::plan_segment(&record[..layout::PLAN - 1], 0, &mut answer);
+    assert_eq!(refusal(short), Refusal::BUFFER_TOO_SHORT);
+    assert!(untouched(&answer));
+    let mut record = filled(layout::PLAN);
+    assert_eq!(calls::plan_message(MESSAGE, 7, 2, 0, 1, 7, &mut record), 1);
+    let window = calls::plan_message(MESSAGE, 6, 2, 6, 1, 6, &mut record);
+    assert_eq!(refusal(window), Refusal::NUMBER_NAMES_NONE);
+    assert!(untouched(&record));
+}
+
+#[test]
+fn frozen() {
+    let record = plan(0);
+    let mut heads = vec![0; layout::HEADS];
+    for (index, head) in heads.chunks_mut(layout::HEAD).take(3).enumerate() {
+        let mut answer = filled(layout::PART);
+        assert_eq!(calls::plan_segment(&record, index as u8, &mut answer), 0);
+        head.copy_from_slice(&answer[..layout::HEAD]);
+    }
+    let mut frozen = filled(layout::PLAN);
+    let check = |count, joined: &[u8], frozen: &mut [u8]| {
+        calls::try_from_frozen(&heads, count, joined, MESSAGE, 6, 1, 6, frozen)
+    };
+    assert_eq!(
+        refusal(check(1, MESSAGE, &mut frozen)),
+        Refusal::SEGMENT_COUNT
+    );
+    assert_eq!(refusal(check(3, b"", &mut frozen)), Refusal::JOINED_LENGTH);
+    assert_eq!(
+        refusal(check(3, b"0123457", &mut frozen)),
+        Refusal::FROZEN_PLAN
+    );
+    assert!(untouched(&frozen));
+    assert_eq!(check(3, MESSAGE, &mut frozen), 0);
+    assert_eq!(frozen[70..], heads);
+}
+
+#[test]
+fn receivers() {
+    let mut record = receiver(65_280);
+    let mut store = filled(layout::STORE + 9);
+    let mut output = filled(layout::STORE);
+    let mut answer = filled(layout::RECEPTION);
+    let mut receive = |segment: [u8; 15], data: &[u8], reading| {
+        let given = calls::receiver_receive(
+            &mut record,
+            &mut store,
+            &mut output,
+            origin(),
+            &segment,
+            data,
+            0,
+            reading,
+            &mut answer,
+        );
+        (given, record.clone(), store.clone(), output.clone())
+    };
+    assert_eq!(
+        refusal(receive(segment(2, 1, 2), b"c", 100).0),
+        Refusal::BEGIN_REQUIRED
+    );
+    let (given, record, store, _) = receive(segment(2, 0, 0), b"ab", 100);
+    assert_eq!((given, record[23]), (0, 1));
+    assert!(store.starts_with(b"ab") && untouched(&store[2..]));
+    let (given, record, _, output) = receive(segment(2, 1, 2), b"c", 200);
+    assert_eq!((given, record[23]), (0, 2));
+    assert!(output.starts_with(b"abc") && untouched(&output[3..]));
+    assert_eq!((answer[42], number(&answer[43..])), (1, 3));
+}
+
+#[test]
+fn receivers_in_time() {
+    let mut record = receiver(0);
+    let mut store = filled(layout::STORE + 9);
+    let mut answer = filled(layout::REPLY);
+    assert_eq!(
+        calls::receiver_advance(&mut record, &mut store, 200, &mut answer),
+        0
+    );
+    let before = record.clone();
+    let regress = calls::receiver_advance(&mut record, &mut store, 199, &mut answer);
+    assert_eq!(refusal(regress), Refusal::CLOCK_REGRESSION);
+    let short = calls::receiver_cancel(&mut record, &mut store[..layout::STORE - 1], 200);
+    assert_eq!(refusal(short), Refusal::STORE_TOO_SHORT);
+    assert!(record == before && untouched(&store));
+    assert_eq!(calls::receiver_cancel(&mut record, &mut store, 200), 0);
+    assert!(store[..layout::STORE].iter().all(|octet| *octet == 0));
+    assert!(untouched(&store[layout::STORE..]));
+    record[33] = 1;
+    let impossible = calls::receiver_cancel(&mut record, &mut store, 200);
+    assert_eq!(refusal(impossible), Refusal::IMPOSSIBLE_STATE);
+    record[0] = 2;
+    let none = calls::receiver_cancel(&mut record, &mut store, 200);
+    assert_eq!(refusal(none), Refusal::BUFFER_SPELLS_NONE);
+}
+
+#[test]
+fn trains() {
+    let mut record = receiver(10);
+    let mut store = filled(layout::STORE);
+    let mut output = filled(10);
+    let mut answer = filled(layout::TRAIN);
+    let octets = [2, 0, 1, b'a', 0x12, 1, 1, b'b', 0x40];
+    let given = calls::receiver_train(
+        &mut record,
+        &mut store,
+        &mut output,
+        origin(),
+        &octets,
+        &[0, 4, 0, 4, 0, 1],
+        100,
+        &mut answer,
+    );
+    assert_eq!(refusal(given), Refusal::PROTOCOL);
+    assert_eq!((number(&answer[..8]), answer[50]), (2, 1));
+    assert!(output.starts_with(b"ab") && untouched(&output[2..]));
+}
+
+#[test]
+fn senders() {
+    let mut record = sender(4);
+    let mut state = filled(layout::STATE);
+    let mut offer = filled(layout::SUBMISSION);
+    for ticket in 0..3 {
+        assert_eq!(calls::sender_submission(&record, &mut offer), 0);
+        assert_eq!((number(&offer[..8]), number(&offer[8..16])), (9, ticket));
+        let stale = calls::sender_accepted(&mut record, 9, ticket, 100, &mut state);
+        assert_eq!(refusal(stale), Refusal::STALE_SUBMISSION);
+        assert_eq!(
+            calls::sender_submitted(&mut record, 9, ticket, 100, 100, &mut state),
+            0
+        );
+        assert_eq!(
+            calls::sender_accepted(&mut record, 9, ticket, 100, &mut state),
+            0
+        );
+    }
+    assert_eq!(state, [2, 0, 0, 0]);
+    let mut offer = filled(layout::SUBMISSION);
+    assert_eq!(calls::sender_submission(&record, &mut offer), 1);
+    assert!(untouched(&offer));
+    let mut response = [0; layout::RESPONSE];
+    response[..4].copy_from_slice(&[2, 10, 0, 3]);
+    response[11] = 7;
+    let given =
+        calls::sender_receive_response(&mut record, origin(), &response, 0, 200, &mut state);
+    assert_eq!((given, state.as_slice()), (0, &[3, 1, 0, 0][..]));
+    response[1] = 14;
+    let given =
+        calls::sender_receive_response(&mut record, origin(), &response, 0, 200, &mut state);
+    assert_eq!(refusal(given), Refusal::BUFFER_SPELLS_NONE);
+}
+
+#[test]
+fn senders_end() {
+    let mut state = filled(layout::STATE);
+    let mut record = sender(0);
+    assert_eq!(calls::sender_advance(&mut record, 150, &mut state), 0);
+    assert_eq!(
+        calls::sender_submitted(&mut record, 9, 0, 150, 150, &mut state),
+        0
+    );
+    let none = calls::sender_lower_failed(&mut record, 9, 0, 3, 0, 150, &mut state);
+    assert_eq!(refusal(none), Refusal::NUMBER_NAMES_NONE);
+    let failed = calls::sender_lower_failed(&mut record, 9, 0, 0, 33, 150, &mut state);
+    assert_eq!((failed, state.as_slice()), (0, &[4, 1, 0, 33][..]));
+    let mut record = sender(0);
+    assert_eq!(calls::sender_cancel(&mut record, 150, &mut state), 0);
+    assert_eq!(state, [5, 0, 0, 0]);
+    let mut state = filled(3);
+    let short = calls::sender_cancel(&mut record, 150, &mut state);
+    assert_eq!(refusal(short), Refusal::BUFFER_TOO_SHORT);
+    assert!(untouched(&state));
+}
+
+/// Every buffer empty: each entry refuses with 80, and nothing is read or written.
+#[test]
+fn empty_buffers() {
+    let none = &mut [][..];
+    let (a, b, c) = (&mut [][..], &mut [][..], &mut [][..]);
+    let given = [
+        calls::encode(&[], &[], 1, a, none),
+        calls::decode(&[], 1, none),
+        calls::plan_message(&[], 0, 0, 0, 0, 0, none),
+        calls::plan_segment(&[], 0, none),
+        calls::try_from_frozen(&[], 0, &[], &[], 0, 0, 0, none),
+        calls::receiver_new(none, origin(), 0, 0, 0, 0),
+        calls::receiver_receive(none, a, b, origin(), &[], &[], 0, 0, c),
+        calls::receiver_advance(none, a, 0, b),
+        calls::receiver_cancel(none, a, 0),
+        calls::receiver_train(none, a, b, origin(), &[], &[], 0, c),
+        calls::sender_new(none, origin(), &[], &[], 0, 0, 0),
+        calls::sender_advance(none, 0, a),
+        calls::sender_cancel(none, 0, a),
+        calls::sender_submitted(none, 0, 0, 0, 0, a),
+        calls::sender_accepted(none, 0, 0, 0, a),
+        calls::sender_lower_failed(none, 0, 0, 9, 0, 0, a),
+        calls::sender_receive_response(none, origin(), &[], 0, 0, a),
+        calls::sender_submission(&[], none),
+    ];
+    assert!(
+        given
+            .map(refusal)
+            .iter()
+            .all(|r| *r == Refusal::BUFFER_TOO_SHORT)
+    );
+}
+
+/// The typed layer on inputs that no one would give.
+#[test]
+fn odd_arguments() {
+    for octets in 0..300 {
+        for filling in [0, 8, 0x10, 0x20, 0xff] {
+            let _ = decode_segment(&vec![filling; octets], filling);
+        }
+    }
+    let long = vec![7; 70_000];
+    let kind = SegmentKind::End {
+        message_length: Some(u16::MAX),
+        crc: Some(MessageCrc::Crc24(u32::MAX)),
+    };
+    let segment = Segment {
+        transaction_id: 255,
+        sequence_number: 255,
+        segment_data: &long,
+        kind,
+    };
+    assert_eq!(
+        segment.encode(255, &mut []),
+        Err(Refusal::FIELD_TRANSACTION_ID)
+    );
+    let many = vec![segment; 300];
+    for count in [0, 1, 2, 256, 257, 300] {
+        let budget = u64::MAX;
+        let frozen = SegmentedMessage::try_from_frozen(&many[..count], &long, budget, 0, budget);
+        assert!(frozen.is_err());
+    }
+    for (budget, ceiling) in [(0, 0), (3, u64::MAX), (258, 258), (u64::MAX, u64::MAX)] {
+        let _ = plan_message(&long, budget, 9, AcknowledgmentWindow::Every16, 0, ceiling);
+    }
+    let mut receiver =
+        Receiver::try_new(PEER, PROTOCOL, 7, 1, u64::MAX, u64::MAX).expect("a right peer");
+    let decoded = DecodedSegment {
+        segment,
+        unparsed_octets: &long,
+    };
+    assert!(receiver.receive(PEER, PROTOCOL, &decoded, 0).is_err());
+    let train = receiver.receive_train(PEER, PROTOCOL, &long, &[65_535; 9], u64::MAX);
+    assert_eq!(train.map(|train| train.received), Ok(0));
+    assert_eq!(receiver.advance(u64::MAX), Ok(None));
+    assert_eq!(receiver.cancel(u64::MAX), Ok(()));
+}
+
+/// A message of 256 segments of 255 octets, out of order.
+#[test]
+fn full_message() {
+    let message: Vec<u8> = (0..65_280u32)
+        .map(|index| (index * 7 + index / 255) as u8)
+        .collect();
+    let planned = plan_message(&message, 258, 6, AcknowledgmentWindow::Prohibited, 1, 258);
+    let Ok(MessagePlan::Segmented(plan)) = planned else {
+        panic!("256 segments");
+    };
+    assert_eq!(plan.count(), 256);
+    let mut receiver = Receiver::try_new(PEER, PROTOCOL, 6, 1, 65_280, 0).expect("a right peer");
+    let order = std::iter::once(0).chain((1..=255).rev());
+    for (reading, index) in (0..).zip(order) {
+        let segment = plan.segment(index).expect("256 segments");
+        let mut octets = [0; layout::ENCODING];
+        let written = segment.encode(1, &mut octets).expect("a plan's segments");
+        let decoded = decode_segment(&octets[..written], 1).expect("it was written");
+        let reception = receiver.receive(PEER, PROTOCOL, &decoded, reading);
+        let reception = reception.expect("no call is refused");
+        assert_eq!(reception.message.is_some(), index == 1);
+        if let Some(handed_over) = reception.message {
+            assert!(handed_over == message);
+        }
+    }
+    assert_eq!(receiver.stored_octets(), 65_280);
+}
