@@ -1,0 +1,513 @@
+#!/usr/bin/env python3
+"""Puts one porting error at a time into a copy of the Rattle crates, compiles the exports without proof, runs the differential driver against them,
+and says which errors the driver finds.
+
+strength_port.py [NAMES]   NAMES: the beginnings of names of errors (c01, r, s1); all errors if none is given.
+
+It works in a temporary folder and changes nothing here. It needs the kit's rattle-cases, which compiles Rattle that is not proved. Status 1: an
+error was missed, or one no longer fits the code."""
+import os, shutil, subprocess, sys, tempfile
+HERE = os.path.dirname(os.path.abspath(__file__))
+REPOSITORY = os.path.dirname(HERE)
+EXPORTS = ['codec_c', 'receiver_c', 'sender_c']
+SECONDS = 300
+
+ERRORS = []
+
+
+def error(name, file, old, new, nth=0):
+    ERRORS.append((name, file, old, new, nth))
+
+
+# ---- codec
+E, D, T = 'tsar/src/encode.rt', 'tsar/src/decode.rt', 'tsar/src/lib.rt'
+error('c01 versions up to 1 refused', T, 'const PV1: u8 = 1;', 'const PV1: u8 = 2;')
+error('c02 transaction 7 refused', T, 'const TRANSACTION_MASK: u8 = 7;', 'const TRANSACTION_MASK: u8 = 6;')
+error('c03 length 4,095 refused', T, 'const MAX_LENGTH_IE_MESSAGE_OCTETS: u16 = 4095;', 'const MAX_LENGTH_IE_MESSAGE_OCTETS: u16 = 4094;')
+error('c04 CRC-24 of 2^24 taken', T, 'const MAX_CRC24: u32 = 16_777_215;', 'const MAX_CRC24: u32 = 16_777_216;')
+error('c05 data length tested after the sequence of a Begin', E, '''        if MAX_SEGMENT_DATA_OCTETS < segment_data_length {
+            return Validated::Refused(Error::Field(ErrorField::SegmentDataLength));
+        }
+        let kind = self.kind;
+        if begin_refused(type_of(kind), self.sequence_number) {
+            return Validated::Refused(Error::Field(ErrorField::BeginSequenceNumber));
+        }''', '''        let kind = self.kind;
+        if begin_refused(type_of(kind), self.sequence_number) {
+            return Validated::Refused(Error::Field(ErrorField::BeginSequenceNumber));
+        }
+        if MAX_SEGMENT_DATA_OCTETS < segment_data_length {
+            return Validated::Refused(Error::Field(ErrorField::SegmentDataLength));
+        }''')
+error('c06 61 where the output is exactly full', E, 'if output.len() < total {', 'if output.len() <= total {')
+error('c07 61 tested before the parameters are counted', E, 'if output.len() < total {', 'if output.len() < end {')
+error('c08 CRC-16 named 3', E, 'const CRC16_NAME: u32 = 2_097_152;', 'const CRC16_NAME: u32 = 3_145_728;')
+error('c09 window one bit higher', E, 'const WINDOW_PLACE: u16 = 8;', 'const WINDOW_PLACE: u16 = 16;')
+error('c10 services before the length', E, '''        put_length(output, after, message_length);
+        put_rest(output, end, kind);''', '''        put_rest(output, after, kind);
+        put_length(output, after + rest_octets(kind), message_length);''')
+error('c11 reserved bit of services unread', D, 'if field % SERVICES_RESERVED_VALUES != 0 {', 'if field % 1 != 0 {')
+error('c12 encryption unread', D, 'if field / ENCRYPTION_PLACE % SERVICE_FIELD_VALUES != 0 {', 'if field / ENCRYPTION_PLACE % 2 != 0 {')
+error('c13 window 6 taken', D, '        5 => AcknowledgmentWindow::Exceptions,\n        _ =>', '        5 => AcknowledgmentWindow::Exceptions,\n        6 => AcknowledgmentWindow::Exceptions,\n        _ =>')
+error('c14 a cut length before a repeat', D, '''    if length_read(message_length) {
+        return Step::Refused(Error::DuplicateParameter);
+    }
+    if s.len() < OPTIONAL_WORD_OCTETS {
+        return Step::Refused(Error::Truncated);
+    }''', '''    if s.len() < OPTIONAL_WORD_OCTETS {
+        return Step::Refused(Error::Truncated);
+    }
+    if length_read(message_length) {
+        return Step::Refused(Error::DuplicateParameter);
+    }''')
+error('c15 three reserved bits of a CRC-24', D, '''    let field = four_octets(s);
+    if field % CRC_RESERVED_VALUES != 0 {''', '''    let field = four_octets(s);
+    if field % 8 != 0 {''')
+error('c16 services on a Continue', D, '''        SegmentType::Continue => {
+            if name == LENGTH_PARAMETER {''', '''        SegmentType::Continue => {
+            if name == SERVICES_PARAMETER {
+                return read_services(s, p);
+            }
+            if name == LENGTH_PARAMETER {''')
+error('c17 type before protocol bits', D, 'let kind = header / TYPE_PLACE;\n    if kind == RESPONSE_TYPE {', 'let kind = header / TYPE_PLACE % 8;\n    if kind == RESPONSE_TYPE {')
+error('c18 a response type tested before the protocol bits', D, '''    if PROTOCOL_PLACE <= header {
+        return DecodeAnswer::Refused(Error::Protocol);
+    }
+    let kind = header / TYPE_PLACE;
+    if kind == RESPONSE_TYPE {
+        return DecodeAnswer::Refused(Error::UnsupportedResponse);
+    }''', '''    let kind = header / TYPE_PLACE;
+    if kind % 8 == RESPONSE_TYPE {
+        return DecodeAnswer::Refused(Error::UnsupportedResponse);
+    }
+    if PROTOCOL_PLACE <= header {
+        return DecodeAnswer::Refused(Error::Protocol);
+    }''')
+error('c19 transaction of two bits', D, 'transaction_id: header % TYPE_PLACE,', 'transaction_id: header % 4,')
+error('c20 unparsed octets counted from the data', D, 'unparsed_octets: bytes.len() - at,', 'unparsed_octets: bytes.len() - end,')
+error('c21 length of eleven bits', D, 'const LENGTH_VALUES: u16 = 4096;', 'const LENGTH_VALUES: u16 = 2048;')
+
+# ---- planner
+P = 'segmentation/src/plan.rt'
+error('p01 a message of the budget is cut', P, 'if message_octets <= payload_budget_octets {', 'if message_octets < payload_budget_octets {')
+error('p02 length stated at one octet less', P, 'minimum_begin_octets(prohibited) + OPTIONAL_WORD_OCTETS < payload_budget_octets', 'minimum_begin_octets(prohibited) + OPTIONAL_WORD_OCTETS <= payload_budget_octets')
+error('p03 255 segments at the most', P, 'if MAX_SEGMENTS <= following {', 'if MAX_SEGMENTS <= following + 1 {')
+error('p04 later segments of 256 octets', P, '''    let later_capacity = smaller(
+        MAX_SEGMENT_DATA_OCTETS,''', '''    let later_capacity = smaller(
+        MAX_SEGMENT_DATA_OCTETS + 1,''')
+error('p05 the count rounded down', P, '(n - 1) / d + 1', 'n / d')
+error('p06 the ceiling tested after Unsegmented', P, '''    if ceiling < payload_budget_octets {
+        return MessagePlan::Refused(PlanningError::PayloadBudget);
+    }
+    if message_octets <= payload_budget_octets {
+        return MessagePlan::Unsegmented;
+    }''', '''    if message_octets <= payload_budget_octets {
+        return MessagePlan::Unsegmented;
+    }
+    if ceiling < payload_budget_octets {
+        return MessagePlan::Refused(PlanningError::PayloadBudget);
+    }''')
+error('p07 the last segment is a Continue', P, 'if index + 1 == self.count {', 'if index == self.count {')
+error('p08 offsets of equal segments', P, 'self.begin_octets + (index - 1) * self.later_capacity', 'index * self.later_capacity')
+
+# ---- frozen check
+F = 'segmentation/src/frozen.rt'
+error('f01 a Begin with a CRC service', F, '    !selects_crc(crc_status)\n', '    true\n')
+error('f02 budget before codec', F, '''    match segment.validate(head.segment_data_length, version) {
+        Validated::Refused(e) => FrozenAnswer::Refused(PlanningError::Codec(e)),''', '''    let kind = segment.kind;
+    if payload_budget_octets < kind.header_octets() + head.segment_data_length {
+        return FrozenAnswer::Refused(PlanningError::PayloadBudget);
+    }
+    match segment.validate(head.segment_data_length, version) {
+        Validated::Refused(e) => FrozenAnswer::Refused(PlanningError::Codec(e)),''')
+error('f03 the last octet of the message uncompared', F, 'octets::same(&joined[offset..end], &message[offset..end])', 'n == 0 || octets::same(&joined[offset..end - 1], &message[offset..end - 1])')
+error('f04 octets left over', F, 'if offset != message_octets {', 'if message_octets < offset {')
+error('f05 heads past the count kept', F, '    let kept = kept_heads(heads, count);', '    let kept = heads;')
+error('f06 257 segments', F, 'if MAX_SEGMENTS < count {', 'if MAX_SEGMENTS <= count {')
+error('f07 24 after the first segment', F, '''    if !sums_to(heads, count, joined.len()) {
+        return refused(PlanningError::JoinedLength);
+    }
+    let head = heads[0];
+    let segment = head.segment;
+    let kind = segment.kind;''', '''    let head = heads[0];
+    let segment = head.segment;
+    let kind = segment.kind;
+    if !sums_to(heads, count, joined.len()) {
+        return refused(PlanningError::FrozenPlan);
+    }''')
+error('f08 stated lengths of later segments unread', F, 'if states_other(length_in(kind), message_octets) {', 'if index == 0 && states_other(length_in(kind), message_octets) {')
+
+# ---- words, peers, responses
+W, L, Q, O = 'words/src/lib.rt', 'link/src/lib.rt', 'response/src/lib.rt', 'octets/src/lib.rt'
+error('w01 marks from 192 on as from 191', W, 'd: front_in(n, 192),', 'd: front_in(n, 191),')
+error('w02 the highest mark of the third word', W, 'return Found::At(128 + top(self.c));', 'return Found::At(127 + top(self.c));')
+error('w03 marks past 255 in maps of 256 entries', W, '''    if 64 <= k {
+        return 18446744073709551615;
+    }''', '''    if 64 <= k {
+        return 9223372036854775807;
+    }''')
+error('l01 widths up to 64', L, 'const MAX_WIDTH: u8 = 63;', 'const MAX_WIDTH: u8 = 62;')
+error('l02 a value of 2 to the width', L, '1u64 << width <= self.value', '1u64 << width < self.value')
+error('l03 carrier bits: one is enough', L, 'const SEGMENTED_CARRIER_BITS: u8 = 0xc0;', 'const SEGMENTED_CARRIER_BITS: u8 = 0x80;')
+error('l04 the kind of a peer uncompared', L, 'if self.kind != other.kind {', 'if self.kind != self.kind {')
+error('q01 maps of 257 entries', Q, 'const MAX_MAP_BITS: u16 = 256;', 'const MAX_MAP_BITS: u16 = 257;')
+error('q02 6/6 after 1', Q, '''        if map_length_refused(self.acknowledgments.bit_count) {
+            return Validated::Refused(Error::Field(ErrorField::AcknowledgmentMapLength));
+        }
+        if version < PV1 {
+            return Validated::Refused(Error::Version);
+        }
+        if TRANSACTION_MASK < self.transaction_id {
+            return Validated::Refused(Error::Field(ErrorField::TransactionId));
+        }''', '''        if version < PV1 {
+            return Validated::Refused(Error::Version);
+        }
+        if TRANSACTION_MASK < self.transaction_id {
+            return Validated::Refused(Error::Field(ErrorField::TransactionId));
+        }
+        if map_length_refused(self.acknowledgments.bit_count) {
+            return Validated::Refused(Error::Field(ErrorField::AcknowledgmentMapLength));
+        }''')
+error('q03 a support list from version 6 on', Q, 'const PV5: u8 = 5;', 'const PV5: u8 = 6;')
+error('o01 the last octet uncopied', O, '    while i < n {\n        dst[at + i]', '    while i + 1 < n {\n        dst[at + i]')
+
+# ---- receiver
+C, M, R, A, G, S2 = ('receiver/src/' + f for f in ('checks.rt', 'machine.rt', 'rules.rt', 'replies.rt', 'lib.rt', 'states.rt'))
+H = 'receiver/src/faults.rt'
+error('r01 the last reading from which a deadline fits', C, 'if LATEST_READING < brought.reading {', 'if LATEST_READING <= brought.reading {')
+error('r02 a wait of 299,999 ms', G, 'const REASSEMBLY_MS: u64 = 300_000;', 'const REASSEMBLY_MS: u64 = 299_999;')
+error('r03 the wipe goes past 65,280', M, 'octets::wipe(store, STORE_OCTETS);', 'octets::wipe(store, store.len());')
+error('r04 the wipe stops at what a slot less holds', M, 'octets::wipe(store, STORE_OCTETS);', 'octets::wipe(store, STORE_OCTETS - SLOT_OCTETS);')
+error('r05 slots of 256 octets in keep', M, 'octets::put(store, SLOT_OCTETS * sequence as usize, data);', 'octets::put(store, 256 * sequence as usize, data);')
+error('r06 late at the deadline', M, 'if late(deadline, reading) {', 'if due(deadline, reading) {')
+error('r07 advance fires only past the deadline', S2, 'Deadline::At(d) => d <= reading,', 'Deadline::At(d) => d < reading,')
+error('r08 an expired receiver keeps its store', M, '''        if prohibited(window) {
+            wipe(store);''', '''        if prohibited(window) {''')
+error('r09 37 takes the reading', M, '''            return Receive {
+                answer: ReceiveAnswer::Refused(ReceiveError::TimerDue),
+                receiver: self,
+            };''', '''            let next = timed(progress, progress.deadline_monotonic_ms, reading);
+            return Receive {
+                answer: ReceiveAnswer::Refused(ReceiveError::TimerDue),
+                receiver: Receiver {
+                    progress: next,
+                    ..self
+                },
+            };''')
+error('r10 38 of a complete receiver takes no reading', M, '''            answer: ReceiveAnswer::Refused(ReceiveError::Closed),
+            receiver: Receiver {
+                progress: next,
+                ..self
+            },''', '''            answer: ReceiveAnswer::Refused(ReceiveError::Closed),
+            receiver: self,''')
+error('r11 a repeat moves no deadline', M, '''    if receiving(state) {
+        Deadline::At(reading + REASSEMBLY_MS)''', '''    if awaiting(state) {
+        Deadline::At(reading + REASSEMBLY_MS)''')
+error('r12 a repeat in Complete sets a deadline', M, '''    if receiving(state) {
+        Deadline::At(reading + REASSEMBLY_MS)''', '''    if receiving(state) || complete(state) {
+        Deadline::At(reading + REASSEMBLY_MS)''')
+error('r13 a repeat with other data is a repeat', M, 'octets::same(part(store, from, data.len()), data)', 'true')
+error('r14 a Continue at 255 is held', R, 'if both(is_continue(kind), sequence == LAST_SEQUENCE) {', 'if both(is_continue(kind), false) {')
+error('r15 kinds before repeats', R, '''    if both(place.held, !place.same) {
+        return Decision::Fails(Stage::Before, Status::Aborted);
+    }''', '''    if both(has_crc(crc_in(segment.kind)), !complete(progress.state)) {
+        return Decision::Fails(Stage::Before, Status::CrcSelectionUnsupported);
+    }
+    if both(place.held, !place.same) {
+        return Decision::Fails(Stage::Before, Status::Aborted);
+    }''')
+error('r16 the size of a repeat uncompared', R, 'if both(place.held, place.octets != amounts.octets) {', 'if both(place.held, place.octets < amounts.octets) {')
+error('r17 an End below what is held', R, 'let misplaced = either(either(sequence == 0, other_end(end, sequence)), !clear);', 'let misplaced = either(sequence == 0, other_end(end, sequence));')
+error('r18 past the end is held', R, 'if past_end(end, sequence) {', 'if both(past_end(end, sequence), sequence == LAST_SEQUENCE) {')
+error('r19 a message of the maximum is too long', R, 'if either(states_above(stated, amounts.maximum), room < amounts.octets) {', 'if either(states_above(stated, amounts.maximum), room <= amounts.octets) {')
+error('r20 a failing Begin leaves no services', R, 'return Decision::Fails(Stage::Begun, unserved(compression, crc));', 'return Decision::Fails(Stage::Before, unserved(compression, crc));')
+error('r21 a length error at completion leaves the segment out of the map', R, 'return Decision::Fails(Stage::Keeping, Status::MessageLengthError);', 'return Decision::Fails(Stage::Noted, Status::MessageLengthError);')
+error('r22 timeout maps end at the highest held slot', A, 'if next { next_entry(s) } else { s }', 's')
+error('r23 maps of 257 entries after slot 255', A, '    if s < LAST_SEQUENCE {\n        s + 1', '    if s < 254 {\n        s + 1')
+error('r24 the period counts from 0', A, '(sequence as u16 + 1) % n == 0', 'sequence as u16 % n == 0')
+error('r25 Every16 every 8', A, 'const PERIODS: [u16; 6] = [0, 4, 8, 16, 0, 0];', 'const PERIODS: [u16; 6] = [0, 4, 8, 8, 0, 0];')
+error('r26 Exceptions answers completion', A, 'AcknowledgmentWindow::Exceptions => false,', 'AcknowledgmentWindow::Exceptions => true,')
+error('r27 a support list with CRC', A, '        crc: false,\n    };', '        crc: true,\n    };')
+error('r28 a support list below version 5', A, 'PV5 <= terms.version,', 'PV5 - 1 <= terms.version,')
+error('r29 36 before 38', C, '''            if !taking(state) {
+                return Check::Refused(ReceiveError::Closed);
+            }
+            let kind = segment.kind;
+            if both(awaiting(state), !is_begin(kind)) {
+                return Check::Refused(ReceiveError::BeginRequired);
+            }
+            if LATEST_READING < brought.reading {
+                return Check::Refused(ReceiveError::TimeOverflow);
+            }''', '''            let kind = segment.kind;
+            if LATEST_READING < brought.reading {
+                return Check::Refused(ReceiveError::TimeOverflow);
+            }
+            if !taking(state) {
+                return Check::Refused(ReceiveError::Closed);
+            }
+            if both(awaiting(state), !is_begin(kind)) {
+                return Check::Refused(ReceiveError::BeginRequired);
+            }''')
+error('r30 61 asks for 65,280 octets always', C, 'if output < smaller(terms.maximum_message_octets, STORE_OCTETS) {', 'if output < STORE_OCTETS {')
+error('r31 62 without the sum', H, '    if stored != found.sum {\n        return true;\n    }\n', '')
+error('r32 62 where the end itself is not held', H, 'held.none_past(e)', 'held.none_past(e) && held.has(e)')
+error('r33 a message joined without its last segment', M, 'let count = last as usize + 1;', 'let count = last as usize;')
+error('r34 the reading of a refused advance is taken', M, '''            Check::Refused(e) => Advance {
+                answer: AdvanceAnswer::Refused(e),
+                receiver: self,
+            },''', '''            Check::Refused(e) => {
+                let next = timed(progress, progress.deadline_monotonic_ms, monotonic_ms);
+                Advance {
+                    answer: AdvanceAnswer::Refused(e),
+                    receiver: Receiver {
+                        progress: next,
+                        ..self
+                    },
+                }
+            }''')
+error('r35 cancelling a complete receiver', C, 'if either(awaiting(state), receiving(state)) {', 'if taking(state) {')
+error('r36 failure forgets the stated length', M, '''    let message_length = standing.message_length;
+    let progress = Progress {
+        state,''', '''    let message_length = MessageLength::Unstated;
+    let progress = Progress {
+        state,''')
+error('r37 closing keeps the held lengths', M, '    let lengths = empty_lengths();\n    let slots = empty_slots();\n    Receiver {', '    let mut lengths = empty_lengths();\n    lengths[0] = 1;\n    let slots = empty_slots();\n    Receiver {')
+
+# ---- sender
+K, J, U, V, X, Y = ('sender/src/' + f for f in ('checks.rt', 'marks.rt', 'steps.rt', 'turns.rt', 'lib.rt', 'plans.rt'))
+Z = 'sender/src/state.rt'
+error('s01 a wait of 330,001 ms', X, 'const SEGMENT_INTERVAL_MS: u64 = 330_000;', 'const SEGMENT_INTERVAL_MS: u64 = 330_001;')
+error('s02 the last queued reading', K, 'if both(sets, LATEST_QUEUED_MS < queued_monotonic_ms) {', 'if both(sets, LATEST_QUEUED_MS <= queued_monotonic_ms) {')
+error('s03 34 where no deadline is set', K, 'if both(sets, LATEST_QUEUED_MS < queued_monotonic_ms) {', 'if LATEST_QUEUED_MS < queued_monotonic_ms {')
+error('s04 41 before 34', K, '''        if both(sets, LATEST_QUEUED_MS < queued_monotonic_ms) {
+            return Check::Refuse(SenderError::TimeOverflow);
+        }
+        if MAX_SUBMISSIONS <= self.layer3_submissions {
+            return Check::Refuse(SenderError::CounterOverflow);
+        }''', '''        if MAX_SUBMISSIONS <= self.layer3_submissions + 1 {
+            return Check::Refuse(SenderError::CounterOverflow);
+        }
+        if both(sets, LATEST_QUEUED_MS < queued_monotonic_ms) {
+            return Check::Refuse(SenderError::TimeOverflow);
+        }''')
+error('s05 the number of a token unread', Z, 'Current::Submission(x) => both(own == number, x.ticket == ticket),', 'Current::Submission(x) => x.ticket == ticket,')
+error('s06 queued at the prepared reading refused', K, 'queued_monotonic_ms < prepared,', 'queued_monotonic_ms <= prepared,')
+error('s07 a retained offer takes a new ticket', U, 'if both(state.prepared(), current.is_at(i)) {', 'if both(state.prepared(), both(current.is_at(i), self.last_ticket == MAX_TICKET)) {')
+error('s08 tickets end one early', U, 'if self.last_ticket == MAX_TICKET {', 'if self.last_ticket >= MAX_TICKET - 1 {')
+error('s09 63 keeps what was marked', V, '''                match self.advanced(n, window, monotonic_ms) {
+                    Moved::NoTicket => self.left(Moved::NoTicket),
+                    Moved::To(p) => self.left(Moved::To(p.cancelled())),
+                }''', '''                match self.advanced(n, window, monotonic_ms) {
+                    Moved::NoTicket => self.left(Moved::To(self.cancelled())),
+                    Moved::To(p) => self.left(Moved::To(p.cancelled())),
+                }''')
+error('s10 a response at the deadline is late', V, 'if !deadline.late(arrival.reading) {', 'if !deadline.due(arrival.reading) {')
+error('s11 no closing advance after a response', V, 'Moved::To(p) => p.advanced(n, window, arrival.reading),', '''Moved::To(p) => Moved::To(Progress {
+                last_monotonic_ms: arrival.reading,
+                ..p
+            }),''')
+error('s12 a shorter map keeps earlier acknowledgments', J, '    received.first(map.bit_count).first(n)\n', '    received.first(256).first(n)\n')
+error('s13 Continuing sends the unreported again', J, 'if timeout {', 'if timeout || map.bit_count < n {')
+error('s14 a clear entry past the map', J, 'kept.or(known.and(Words::below(map.bit_count).minus(received)))', 'kept.or(known.and(Words::below(256).minus(received)))')
+error('s15 48 reads bits past the map', J, '''    !received
+        .first(map.bit_count)
+        .minus(submitted.first(n))''', '''    !received
+        .first(256)
+        .minus(submitted.first(n))''')
+error('s16 49 reads entries past the count', J, '''        .minus(received)
+        .first(n)
+        .is_none()''', '''        .minus(received)
+        .is_none()''')
+error('s17 CrcError keeps acknowledgments', U, '''        let again = resent(n, submitted, retry);
+        let received = Words::none();''', '''        let again = resent(n, submitted, retry);
+        let received = self.received;''')
+error('s18 CrcError asks for segments never sent', J, 'submitted.first(n).or(retry)', 'Words::below(n).or(retry)')
+error('s19 the last segment is not asked for again', U, 'let again = last_if(asks, n, submitted, told);', 'let again = told;')
+error('s20 asked for again with a deadline running too', U, 'let asks = either(timeout, !deadline.running());', 'let asks = true;')
+error('s21 a due deadline with a submission marks all', U, 'Current::Submission(x) => retry.with(x.index),', 'Current::Submission(_x) => unreceived(n, received, retry),')
+error('s22 Exceptions completes while Prepared', U, 'let awaits = both(is_exceptions(window), state.awaits_response());', 'let awaits = is_exceptions(window);')
+error('s23 Exceptions never completes', U, 'let awaits = both(is_exceptions(window), state.awaits_response());', 'let awaits = false;')
+error('s24 Prohibited sets a deadline for the last segment', U, '!both(last, is_prohibited(window))', 'true')
+error('s25 accepted at the deadline', V, '''                match self.advanced(n, window, monotonic_ms) {
+                    Moved::NoTicket => self.left(Moved::NoTicket),
+                    Moved::To(p) => {
+                        if p.awaits_word(own, number, ticket) {
+                            return self.left(p.accepted_next(n, window, monotonic_ms));''', '''                match Moved::To(self) {
+                    Moved::NoTicket => self.left(Moved::NoTicket),
+                    Moved::To(p) => {
+                        if p.awaits_word(own, number, ticket) {
+                            return self.left(p.accepted_next(n, window, monotonic_ms));''')
+error('s26 a late 42 changes nothing', V, '''                            return self.left(p.accepted_next(n, window, monotonic_ms));
+                        }
+                        self.refused_after(SenderError::StaleSubmission, Moved::To(p))''', '''                            return self.left(p.accepted_next(n, window, monotonic_ms));
+                        }
+                        self.refused(SenderError::StaleSubmission)''')
+error('s27 a late 44 changes nothing', V, 'return self.refused_after(SenderError::ReceiptTime, late);', 'return self.refused(SenderError::ReceiptTime);')
+error('s28 submitted counts no second time', U, 'layer3_submissions: self.layer3_submissions + 1,', 'layer3_submissions: self.layer3_submissions,')
+error('s29 a response in AwaitingAccept offers', U, '''        if state.awaits_accept() {
+            return Moved::To(self);
+        }
+        self.prepare(n, monotonic_ms)''', '''        self.prepare(n, monotonic_ms)''')
+error('s30 45 after 31', K, '''        if !peer.same(own_peer) {
+            return Check::Refuse(SenderError::Peer);
+        }
+        if !protocol.same(own_protocol) {
+            return Check::Refuse(SenderError::Service);
+        }''', '''        if !protocol.same(own_protocol) {
+            return Check::Refuse(SenderError::Service);
+        }
+        if !peer.same(own_peer) {
+            return Check::Refuse(SenderError::Peer);
+        }''')
+error('s31 46 after 43', K, '''        if is_prohibited(window) {
+            return Check::Refuse(SenderError::ResponsesProhibited);
+        }
+        if none_submitted(n, submitted) {
+            return Check::Refuse(SenderError::NotSubmitted);
+        }''', '''        if none_submitted(n, submitted) {
+            return Check::Refuse(SenderError::NotSubmitted);
+        }
+        if is_prohibited(window) {
+            return Check::Refuse(SenderError::ResponsesProhibited);
+        }''')
+error('s32 62 without the marks past the count', K, '        if self.marks_past(count as u16) {\n            return true;\n        }\n', '')
+error('s33 62 where a closed sender has a deadline', K, 'both(state.closed(), deadline.running())', 'both(state.closed(), false)')
+error('s34 cancel without the advance', V, '''                match self.advanced(n, window, monotonic_ms) {
+                    Moved::NoTicket => self.left(Moved::NoTicket),
+                    Moved::To(p) => self.left(Moved::To(p.cancelled())),
+                }''', '''                match Moved::To(self) {
+                    Moved::NoTicket => self.left(Moved::NoTicket),
+                    Moved::To(p) => self.left(Moved::To(p.cancelled())),
+                }''')
+error('s35 EncryptionUnsupported goes on', X, 'Reaction::Fails, // EncryptionUnsupported', 'Reaction::Marks, // EncryptionUnsupported')
+error('s36 40 does not read the count', Y, '    if p.count != q.count {\n        return false;\n    }\n', '')
+error('s37 40 does not read heads past the count', Y, '            if !empty_from(heads, count) {\n                return false;\n            }\n', '')
+error('s38 submission() in AwaitingAccept', X, 'if !state.prepared() {', 'if state.closed() {')
+error('s39 the offer of another segment', X, 'offer_of(self.terms.number, x, plan.segment(x.index))', 'offer_of(self.terms.number, x, plan.segment(0))')
+error('s40 a version below 1 taken', X, 'if version < PV1 {', 'if version + 1 < PV1 {')
+
+
+def kit():
+    """The kit's folder, and that of this kind of machine in it."""
+    home = os.path.dirname(os.path.dirname(subprocess.run(['rt', 'doc'], capture_output=True, text=True, check=True).stdout.strip()))
+    return home, os.path.join(home, 'on', os.uname().machine)
+
+
+def dependencies():
+    """What each crate of crates.txt names."""
+    found = {}
+    for line in open(os.path.join(REPOSITORY, 'crates.txt')):
+        name, _, rest = line.partition(':')
+        if rest and not name.startswith('#'):
+            found[name.strip()] = rest.split()
+    return found
+
+
+def reached(name, uses):
+    """The crates below one, each after those that it names."""
+    order = []
+
+    def visit(each):
+        for below in uses.get(each, []):
+            visit(below)
+        if each not in order:
+            order.append(each)
+    for below in uses[name]:
+        visit(below)
+    return order
+
+
+def compile_exports(crates, folder):
+    """The exports of a copy of crates/ as one shared library, so that the driver needs no new link. Gives what the compiler says against it."""
+    home, own = kit()
+    uses = dependencies()
+    archives = []
+    for name in EXPORTS:
+        archive = os.path.join(folder, f'lib{name}.a')
+        words = [os.path.join(own, 'bin/rattle-cases'), '--toolchain', os.path.join(own, 'toolchain'), '--staticlib', archive,
+                 f'{crates}/{name}/src/lib.rt', '--crate-name', name, '--lib', f'std={home}/libs/std/src/lib.rt']
+        for below in reached(name, uses):
+            words += ['--lib', f'{below}={crates}/{below}/src/lib.rt']
+        made = subprocess.run(words, capture_output=True, text=True)
+        if made.returncode or not os.path.exists(archive):
+            return made.stderr or made.stdout
+        archives.append(archive)
+    library = os.path.join(folder, 'libcatkhize.so')
+    made = subprocess.run(['gcc', '-shared', '-o', library, '-Wl,--whole-archive', *archives, '-Wl,--no-whole-archive'],
+                          capture_output=True, text=True)
+    for archive in archives:
+        os.remove(archive)
+    return made.stderr if made.returncode else None
+
+
+def apply(crates, file, old, new, nth):
+    path = os.path.join(crates, file)
+    text = open(path).read()
+    at = -1
+    for _ in range(nth + 1):
+        at = text.find(old, at + 1)
+    if at < 0:
+        return False
+    open(path, 'w').write(text[:at] + new + text[at + len(old):])
+    return True
+
+
+def run(root, library):
+    """What the driver says: None where it finds nothing."""
+    environment = dict(os.environ, LD_LIBRARY_PATH=library, RUST_BACKTRACE='0')
+    driver = os.path.join(root, 'target/release/differ')
+    try:
+        ran = subprocess.run([driver, '--rounds', '1', '--shrink', '0'], env=environment, capture_output=True, text=True, timeout=SECONDS)
+    except subprocess.TimeoutExpired:
+        return f'it runs longer than {SECONDS} s'
+    if ran.returncode == 0:
+        return None
+    if ran.returncode < 0:
+        return f'it stops by signal {-ran.returncode}'
+    said = [line for line in ran.stdout.splitlines() if line.startswith(('DISAGREEMENT', 'NEVER SEEN'))]
+    return said[0] if said else ran.stderr.strip().splitlines()[-1]
+
+
+def main():
+    wanted = sys.argv[1:]
+    root = tempfile.mkdtemp(prefix='strength-')
+    library = os.path.join(root, 'library')
+    crates = os.path.join(root, 'crates')
+    os.mkdir(library)
+    source = os.path.join(REPOSITORY, 'crates')
+    said = compile_exports(source, library)
+    if said:
+        sys.exit(f'the exports do not compile: {said}')
+    environment = dict(os.environ, CATKHIZE_LIB_DIR=library, CARGO_TARGET_DIR=os.path.join(root, 'target'))
+    subprocess.run(['cargo', 'build', '--offline', '--release', '--quiet', '-p', 'differ'], cwd=HERE, env=environment, check=True)
+    said = run(root, library)
+    if said:
+        sys.exit(f'the exports as they are: {said}')
+    found, missed, wrong = 0, [], []
+    for name, file, old, new, nth in ERRORS:
+        if wanted and not name.startswith(tuple(wanted)):
+            continue
+        shutil.rmtree(crates, ignore_errors=True)
+        shutil.copytree(source, crates)
+        if not apply(crates, file, old, new, nth):
+            wrong.append(name)
+            print(name, 'DOES NOT FIT THE CODE', flush=True)
+            continue
+        said = compile_exports(crates, library)
+        if said:
+            wrong.append(name)
+            print(name, 'DOES NOT COMPILE:', said[:600], flush=True)
+            continue
+        said = run(root, library)
+        if said is None:
+            missed.append(name)
+            print(name, 'MISSED', flush=True)
+        else:
+            found += 1
+            print(f'{name}: found. {said}', flush=True)
+    print(f'{found} found, {len(missed)} missed, {len(wrong)} that do not fit')
+    shutil.rmtree(root, ignore_errors=True)
+    return 1 if missed or wrong else 0
+
+
+if __name__ == '__main__':
+    sys.exit(main())
