@@ -1,13 +1,16 @@
 #!/usr/bin/env python3
-"""Puts one likely porting error at a time into a copy of docs/src, replays the recorded lists against it, and says which errors the lists find.
+"""Puts one likely porting error at a time into a copy of docs/src, and says which errors are found: by replaying the recorded lists against it, or,
+with --driver, by running the differential driver with it in place of the original.
 
-strength.py [AREAS]   AREAS: some of the letters c (codec), p (planner), f (frozen check), r (receiver), s (sender); all of them if none is given.
-It works in a temporary folder and changes nothing here. All of it takes about an hour on two cores."""
+strength.py [--driver] [AREAS]   AREAS: some of the letters c (codec), p (planner), f (frozen check), r (receiver), s (sender); all of them if none
+is given. --driver links the static libraries of target/staticlib, or of CATKHIZE_LIB_DIR.
+It works in a temporary folder and changes nothing here. All of it takes about an hour on two cores. (strength_port.py puts errors into the port.)"""
 import os, shutil, subprocess, sys, tempfile
 HERE=os.path.dirname(os.path.abspath(__file__))
 ROOT=tempfile.mkdtemp(prefix='strength-')
 REC=os.path.join(HERE,'..','crates','replay','data')
-only=sys.argv[1] if len(sys.argv)>1 else None
+DRIVER='--driver' in sys.argv
+only=''.join(a for a in sys.argv[1:] if a!='--driver') or None
 SRC=os.path.join(HERE,'..','docs','src'); B='crates/bts136/src/'
 T=B+'l3/tsar.rs'; P=B+'l3/tsar/segmentation.rs'; R=B+'link/tsar/receiver.rs'; S=B+'link/tsar/sender.rs'; Q=B+'l3/tsar/response.rs'
 M=[]
@@ -711,21 +714,19 @@ def reset():
     shutil.rmtree(ROOT+'/docs',ignore_errors=True)
     os.makedirs(ROOT+'/docs'); shutil.copytree(SRC,ROOT+'/docs/src')
 
-shutil.rmtree(ROOT+'/oracle',ignore_errors=True)
-shutil.copytree(HERE,ROOT+'/oracle',ignore=shutil.ignore_patterns('target','recorded'))
+shutil.copytree(HERE,ROOT+'/oracle',ignore=shutil.ignore_patterns('target'))
+shutil.copytree(os.path.join(HERE,'..','rust'),ROOT+'/rust',ignore=shutil.ignore_patterns('target'))
 mp=ROOT+'/oracle/record/src/main.rs'
 open(mp,'w').write("""
-#![allow(dead_code, unused)]
-mod fields; mod list; mod octets; mod play; mod random; mod refusals; mod tokens;
-use list::replay; use play::receiver::Receiving; use play::sender::Sending;
+use record::list::replay; use record::play::{codec::Codec, plan::Plans, receiver::Receiving, sender::Sending};
 fn main() {
     let folder = std::env::args().nth(2).unwrap();
     let mut good = true;
     for name in ["codec","plan","receiver","sender"] {
         let list = std::fs::read(format!("{folder}/{name}.rec")).unwrap();
         let r = std::panic::catch_unwind(|| match name {
-            "codec" => replay(&list, &mut play::codec::Codec),
-            "plan" => replay(&list, &mut play::plan::Plans),
+            "codec" => replay(&list, &mut Codec),
+            "plan" => replay(&list, &mut Plans),
             "receiver" => replay(&list, &mut Receiving::default()),
             _ => replay(&list, &mut Sending::default()),
         });
@@ -735,18 +736,29 @@ fn main() {
 }
 """)
 env=dict(os.environ,CARGO_TARGET_DIR=ROOT+'/target',RUST_BACKTRACE='0',CARGO_PROFILE_RELEASE_OPT_LEVEL='1',CARGO_INCREMENTAL='1')
+env.setdefault('CATKHIZE_LIB_DIR',os.path.abspath(os.path.join(HERE,'..','target','staticlib')))
+PACKAGE='differ' if DRIVER else 'record'
+def run():
+    """Whether the error is found, and what is said of it."""
+    if not DRIVER:
+        r=subprocess.run([ROOT+'/target/release/record','--replay',REC],capture_output=True,text=True)
+        out=[l for l in r.stdout.splitlines() if ', 0 differ' not in l]
+        return r.returncode, '; '.join(out) or r.stderr.splitlines()[1:2]
+    try: r=subprocess.run([ROOT+'/target/release/differ','--rounds','1','--shrink','0'],capture_output=True,text=True,timeout=600)
+    except subprocess.TimeoutExpired: return 1, 'it runs longer than 600 s'
+    out=[l for l in r.stdout.splitlines() if l.startswith(('DISAGREEMENT','NEVER SEEN'))]
+    return r.returncode, '; '.join(out) or r.stderr.splitlines()[:2]
 found=missed=0; bad=[]
 for name,file,old,new,nth in sorted(M,key=lambda t:'srpfc'.index(t[0][0])):
     if only and name[0] not in only: continue
     reset()
     e=apply(file,old,new,nth)
     if e: bad.append((name,e)); print(name,'NOT APPLIED'); continue
-    b=subprocess.run(['cargo','build','--offline','--release','-q','-p','record'],cwd=ROOT+'/oracle',env=env,capture_output=True,text=True)
+    b=subprocess.run(['cargo','build','--offline','--release','-q','-p',PACKAGE],cwd=ROOT+'/oracle',env=env,capture_output=True,text=True)
     if b.returncode:
         bad.append((name,b.stderr[:600])); print(name,'DOES NOT COMPILE',b.stderr[:500]); continue
-    r=subprocess.run([ROOT+'/target/release/record','--replay',REC],capture_output=True,text=True)
-    out=[l for l in r.stdout.splitlines() if ', 0 differ' not in l]
-    if r.returncode: found+=1; print(name,'found:', '; '.join(out) or r.stderr.splitlines()[1:2],flush=True)
+    status,said=run()
+    if status: found+=1; print(name,'found:',said,flush=True)
     else: missed+=1; print(name,'MISSED',flush=True)
 print('found',found,'missed',missed,'bad',len(bad))
 shutil.rmtree(ROOT,ignore_errors=True)

@@ -9,7 +9,6 @@ error was missed, or one no longer fits the code."""
 import os, shutil, subprocess, sys, tempfile
 HERE = os.path.dirname(os.path.abspath(__file__))
 REPOSITORY = os.path.dirname(HERE)
-EXPORTS = ['codec_c', 'receiver_c', 'sender_c']
 SECONDS = 300
 
 ERRORS = []
@@ -386,6 +385,14 @@ error('s39 the offer of another segment', X, 'offer_of(self.terms.number, x, pla
 error('s40 a version below 1 taken', X, 'if version < PV1 {', 'if version + 1 < PV1 {')
 
 
+def exports():
+    """The crates that export an entry."""
+    crates = os.path.join(REPOSITORY, 'crates')
+    sources = {name: os.path.join(crates, name, 'src') for name in sorted(os.listdir(crates))}
+    entries = lambda folder: any('extern "C" fn catkhize_' in open(os.path.join(folder, file)).read() for file in os.listdir(folder))
+    return [name for name, folder in sources.items() if os.path.isdir(folder) and entries(folder)]
+
+
 def kit():
     """The kit's folder, and that of this kind of machine in it."""
     home = os.path.dirname(os.path.dirname(subprocess.run(['rt', 'doc'], capture_output=True, text=True, check=True).stdout.strip()))
@@ -421,7 +428,7 @@ def compile_exports(crates, folder):
     home, own = kit()
     uses = dependencies()
     archives = []
-    for name in EXPORTS:
+    for name in exports():
         archive = os.path.join(folder, f'lib{name}.a')
         words = [os.path.join(own, 'bin/rattle-cases'), '--toolchain', os.path.join(own, 'toolchain'), '--staticlib', archive,
                  f'{crates}/{name}/src/lib.rt', '--crate-name', name, '--lib', f'std={home}/libs/std/src/lib.rt']

@@ -8,7 +8,7 @@ use std::{env, fs, io};
 const FILES: [(&str, &str); 6] = [
     ("l3/tsar", "nothing.rs"),
     ("l3/tsar/response", "nothing.rs"),
-    ("l3/tsar/segmentation", "nothing.rs"),
+    ("l3/tsar/segmentation", "segmentation.rs"),
     ("link/tsar/outgoing", "nothing.rs"),
     ("link/tsar/receiver", "receiver.rs"),
     ("link/tsar/sender", "sender.rs"),
@@ -22,18 +22,13 @@ fn copy(from: &Path, to: &Path) -> io::Result<()> {
 
 fn main() -> io::Result<()> {
     println!("cargo::rerun-if-changed=build.rs");
-    println!("cargo::rerun-if-env-changed=BTS136_SOURCE");
     if env::var_os("CARGO_FEATURE_PRIVATE").is_none() {
         return Ok(());
     }
     println!("cargo::rustc-cfg=test");
     let here = PathBuf::from(env!("CARGO_MANIFEST_DIR"));
     let there = PathBuf::from(env::var_os("OUT_DIR").expect("cargo sets it"));
-    // strength.py names a copy with an error in it here.
-    let source = env::var_os("BTS136_SOURCE").map_or_else(
-        || here.join("../../docs/src/crates/bts136/src"),
-        PathBuf::from,
-    );
+    let source = here.join("../../docs/src/crates/bts136/src");
     for (file, tests) in FILES {
         let name = format!("{file}.rs");
         copy(&source.join(&name), &there.join(&name))?;

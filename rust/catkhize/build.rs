@@ -1,5 +1,5 @@
 //! Says where the proved core's static libraries are: in the folder that CATKHIZE_LIB_DIR names, or in target/staticlib of the repository,
-//! where `rt staticlib` puts them. Shared libraries in that folder are linked too.
+//! where `rt staticlib` puts them. They are `lib*_c.a`; a library of all of them together is `libcatkhize`, static or shared.
 
 use std::path::{Path, PathBuf};
 use std::{env, fs, process};
@@ -14,6 +14,7 @@ fn libraries(folder: &Path, suffix: &str) -> Vec<String> {
             let name = entry.ok()?.file_name().into_string().ok()?;
             Some(name.strip_prefix("lib")?.strip_suffix(suffix)?.to_owned())
         })
+        .filter(|name| name.ends_with("_c") || name == "catkhize")
         .collect();
     names.sort();
     names

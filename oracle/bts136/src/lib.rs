@@ -9,6 +9,9 @@
 mod shims;
 
 #[cfg(feature = "private")]
+#[path = "private/fields.rs"]
+pub mod fields;
+#[cfg(feature = "private")]
 include!(concat!(env!("OUT_DIR"), "/modules.rs"));
 
 #[cfg(not(feature = "private"))]

@@ -8,6 +8,7 @@
 mod buffers;
 mod codec;
 mod describe;
+mod made_up;
 mod plans;
 mod receiver;
 mod sender;

@@ -1,5 +1,6 @@
 //! Receivers: try_new, receive, advance, cancel and trains, with every octet of record, store and output.
 
+use crate::made_up;
 use crate::spell::{self, FILLING, Terms, filled};
 use crate::spells;
 use crate::table::{Area, FULL_MAP, FULL_TRAIN, LATE_RECEPTION, LONG_STORE, Table, WIPED};
@@ -24,6 +25,9 @@ const DAMAGED: u8 = 0x81;
 const BUFFERS: u8 = 0x82;
 const PROBE_NUMBERS: usize = 24;
 
+/// The area of calls on records that no list of calls reached, or that one did.
+const MADE_UP: &str = "receivers made up";
+
 const CLOSED: std::ops::RangeInclusive<u8> = 3..=5;
 const SLOT_OCTETS: usize = 255;
 const LAST_READING: u64 = u64::MAX - 300_000;
@@ -38,6 +42,8 @@ struct Port {
     expected_output: Vec<u8>,
     held: Vec<bool>,
     state: u8,
+    /// The record before the call, where it was made up: slots that are not held may have something in them.
+    left_over: Option<Vec<u8>>,
 }
 
 #[derive(Default)]
@@ -272,6 +278,7 @@ impl Port {
             output,
             held: vec![false; 256],
             state: 0,
+            left_over: None,
         };
         port.compare(original, area)?;
         Ok(Some(port))
@@ -282,6 +289,15 @@ impl Port {
         let mut expected = spell::receiver(self.terms, original);
         let [state, status] = spell::receiver_state(original.state());
         area.state([state, status, 0, 0]);
+        let closes = CLOSED.contains(&state) && !CLOSED.contains(&self.state);
+        if let Some(before) = self.left_over.as_ref().filter(|_| !closes) {
+            let held = original.segments();
+            for index in (0..256).filter(|index| held[*index].is_none()) {
+                for (at, octets) in [(90 + 2 * index, 2), (602 + 13 * index, 13)] {
+                    expected[at..at + octets].copy_from_slice(&before[at..at + octets]);
+                }
+            }
+        }
         expected.resize(self.record.len(), FILLING);
         same("record", &self.record, &expected)?;
         for (index, segment) in original.segments().iter().enumerate() {
@@ -291,7 +307,7 @@ impl Port {
             }
             self.held[index] = segment.is_some();
         }
-        if CLOSED.contains(&state) && !CLOSED.contains(&self.state) {
+        if closes {
             self.expected_store[..layout::STORE].fill(0);
             area.input(WIPED);
         }
@@ -446,7 +462,8 @@ impl Port {
         &mut self,
         (at, change, also): (u64, u64, u64),
         case: &Case,
-        area: &mut Area,
+        table: &mut Table,
+        name: &'static str,
     ) -> Checked {
         let at = at as usize % layout::RECEIVER;
         let right = self.record.clone();
@@ -460,9 +477,11 @@ impl Port {
         } else if spells::receiver_impossible(&self.record) {
             62
         } else {
+            let checked = self.made_up(case, table.area(MADE_UP));
             self.record = right;
-            return Ok(());
+            return checked;
         };
+        let area = table.area(name);
         let checked = if case.op == TRAIN && expected == 62 {
             self.impossible_train(case, area)
         } else {
@@ -489,6 +508,49 @@ impl Port {
         };
         self.record = right;
         checked
+    }
+
+    /// The call on a record that spells a possible receiver, reached by calls or not: the original with those fields does the same.
+    fn made_up(&self, case: &Case, area: &mut Area) -> Checked {
+        let mut maximum = Take(&self.record[15..]);
+        let maximum = maximum.take64();
+        if self.output.len() < maximum.min(layout::STORE as u64) as usize {
+            return Ok(());
+        }
+        let original = made_up::receiver(&self.record, &self.store);
+        let terms = Terms {
+            origin: calls::Origin {
+                kind: self.record[1],
+                width: self.record[2],
+                value: Take(&self.record[3..]).take64(),
+                protocol: self.record[11],
+                octet: self.record[12],
+            },
+            transaction: self.record[13],
+            version: self.record[14],
+            maximum,
+        };
+        let mut copy = Self {
+            terms,
+            record: self.record.clone(),
+            store: self.store.clone(),
+            output: self.output.clone(),
+            expected_store: self.store.clone(),
+            expected_output: self.output.clone(),
+            held: original.segments().iter().map(Option::is_some).collect(),
+            state: self.record[23],
+            left_over: Some(self.record.clone()),
+        };
+        let mut player = Trains {
+            receiving: Receiving {
+                receiver: Some(original),
+            },
+            message: None,
+        };
+        let recorded = player.play(case.op, &case.input);
+        let receiver = player.receiving.receiver.as_ref();
+        let receiver = receiver.expect("a call leaves a receiver");
+        copy.check(receiver, player.message.as_deref(), case, &recorded, area)
     }
 
     /// A train on an impossible record: 62 for its first segment, unless decoding refuses that under the record's version.
@@ -605,7 +667,7 @@ impl Receivers {
         port.check(original, message, case, answer, area)
     }
 
-    fn probe_in(&mut self, case: &Case, area: &mut Area) -> Checked {
+    fn probe_in(&mut self, case: &Case, table: &mut Table, name: &'static str) -> Checked {
         let Some(port) = &mut self.port else {
             return Ok(());
         };
@@ -616,9 +678,9 @@ impl Receivers {
             input: take.rest().to_vec(),
         };
         match case.op {
-            SHORT => port.short(numbers.0, &inner, area),
-            DAMAGED => port.damaged(numbers, &inner, area),
-            _ => port.buffers((numbers.0, numbers.1), &inner, area),
+            SHORT => port.short(numbers.0, &inner, table.area(name)),
+            DAMAGED => port.damaged(numbers, &inner, table, name),
+            _ => port.buffers((numbers.0, numbers.1), &inner, table.area(name)),
         }
     }
 }
@@ -684,7 +746,7 @@ impl Checker for Receivers {
     }
 
     fn probe(&mut self, _: &mut Receiving, case: &Case, table: &mut Table) -> Checked {
-        self.probe_in(case, table.area(Self::NAME))
+        self.probe_in(case, table, Self::NAME)
     }
 
     fn any_probe(&self, random: &mut Random, next: Option<&Case>) -> Option<Case> {
@@ -719,7 +781,7 @@ impl Checker for TrainChecker {
     }
 
     fn probe(&mut self, _: &mut Trains, case: &Case, table: &mut Table) -> Checked {
-        self.0.probe_in(case, table.area(Self::NAME))
+        self.0.probe_in(case, table, Self::NAME)
     }
 
     fn any_probe(&self, random: &mut Random, next: Option<&Case>) -> Option<Case> {

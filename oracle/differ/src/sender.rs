@@ -1,5 +1,6 @@
 //! Senders: every call, with every octet of the record, and what is offered.
 
+use crate::made_up;
 use crate::plans::{port_frozen, port_plan};
 use crate::spell::{self, FILLING, SENDER_PLAN, Tickets, filled};
 use crate::spells;
@@ -8,7 +9,7 @@ use crate::watch::{Case, Checked, Checker, given, same, same_given};
 use bts136::l3::broadcast::ProtocolVersion;
 use bts136::l3::relay::set_ceiling;
 use bts136::l3::tsar::{MessagePlan, Segment, SegmentedMessage, plan_message};
-use bts136::link::tsar::{LowerLayerFailure, Sender, SenderFailure, SenderState};
+use bts136::link::tsar::{LowerLayerFailure, Sender, SenderFailure, SenderState, Submission};
 use catkhize::calls::{self, Origin};
 use catkhize::layout;
 use record::fields::take_head;
@@ -27,6 +28,11 @@ const COUNTER: u8 = 0x81;
 const DAMAGED: u8 = 0x82;
 const BUFFERS: u8 = 0x83;
 const PLAN: u8 = 0x84;
+
+/// The area of calls on records that no list of calls reached, or that one did.
+const MADE_UP: &str = "senders made up";
+/// How many submissions a made-up sender is said to have made: more than any list names.
+const MADE: u64 = 1 << 40;
 
 const LAST_QUEUED: u64 = u64::MAX - 330_000;
 const LAST_TICKET: usize = 44;
@@ -320,7 +326,7 @@ impl Port {
         &self,
         (at, change, also): (u64, u64, u64),
         case: &Case,
-        area: &mut Area,
+        table: &mut Table,
     ) -> Checked {
         let mut record = self.record.clone();
         record[at as usize % layout::SENDER] = change as u8;
@@ -332,8 +338,9 @@ impl Port {
         } else if spells::sender_impossible(&record) {
             62
         } else {
-            return Ok(());
+            return self.made_up(record, case, table.area(MADE_UP));
         };
+        let area = table.area(Senders::NAME);
         let before = record.clone();
         let mut answer = filled(layout::STATE);
         let found = call(
@@ -353,6 +360,65 @@ impl Port {
             same("submission", &answer, &filled(layout::SUBMISSION))?;
         }
         Ok(())
+    }
+
+    /// The call on a record that spells a possible sender, reached by calls or not: the original with those fields does the same.
+    fn made_up(&self, mut record: Vec<u8>, case: &Case, area: &mut Area) -> Checked {
+        let (sender, named) = made_up::sender(&record);
+        let other = Submission::made_up(sender.plan(), (0, 0));
+        let mut take = Take(&case.input);
+        let (ticket, foreign) = match case.op {
+            SUBMITTED | ACCEPTED | LOWER_FAILED => (take.take64(), take.flag()),
+            _ => (0, false),
+        };
+        let owned =
+            self.number ^ u64::from(foreign) == named.number && Some(ticket) == named.ticket;
+        let token = sender.current_submission().filter(|_| owned);
+        let token = token.unwrap_or(other);
+        let mut open = Open {
+            sender,
+            made: MADE,
+            offered: [(ticket, token.clone())].into(),
+            foreign: token,
+        };
+        let answer = play(&mut open, case);
+        let made = open.made - MADE;
+        let before = record.clone();
+        let mut state = filled(layout::STATE);
+        let found = call(
+            case,
+            self.number,
+            &mut record,
+            &mut state,
+            &Wrong::default(),
+        );
+        area.count(found);
+        let Some(last) = named.last_ticket.checked_add(made) else {
+            same_given(found, 256 * 63)?;
+            same("answer", &state, &filled(layout::STATE))?;
+            return same("record", &record, &before);
+        };
+        same_given(found, given(&answer))?;
+        if found == 0 {
+            same("answer", &state, &spell::sender_state(open.sender.state()))?;
+        }
+        area.state(table_state(open.sender.state()));
+        let origin = Origin {
+            kind: before[1],
+            width: before[2],
+            value: Take(&before[3..]).take64(),
+            protocol: before[11],
+            octet: before[12],
+        };
+        let current = if made > 0 {
+            last
+        } else {
+            named.ticket.unwrap_or(0)
+        };
+        let tickets = Tickets { current, last };
+        let mut expected = spell::sender(origin, before[13], named.number, tickets, &open.sender);
+        expected.put_all(&before[SENDER_PLAN..]);
+        same("record", &record, &expected)
     }
 
     /// A buffer that is shorter than its layout (80), a response that spells none (81), a number that names no case (82).
@@ -550,10 +616,19 @@ impl Checker for Senders {
     }
 
     fn probe(&mut self, original: &mut Sending, case: &Case, table: &mut Table) -> Checked {
-        let area = table.area(Self::NAME);
         let (Some(port), Some(original)) = (&mut self.port, &original.open) else {
             return Ok(());
         };
+        if case.op == DAMAGED {
+            let mut take = Take(&case.input);
+            let numbers = (take.take64(), take.take64(), take.take64());
+            let inner = Case {
+                op: take.take8(),
+                input: take.rest().to_vec(),
+            };
+            return port.damaged(numbers, &inner, table);
+        }
+        let area = table.area(Self::NAME);
         let mut take = Take(&case.input);
         let numbers = (take.take64(), take.take64(), take.take64());
         if case.op == PLAN {
@@ -566,7 +641,6 @@ impl Checker for Senders {
         match case.op {
             TICKETS => port.tickets(original, numbers.0 % 3, &inner, area),
             COUNTER => port.counter(original, numbers.0, &inner, area),
-            DAMAGED => port.damaged(numbers, &inner, area),
             _ => port.buffers((numbers.0, numbers.1), &inner, area),
         }
     }

@@ -194,7 +194,7 @@ fn sender_state_name(state: [u8; 4]) -> String {
 }
 
 fn state_name(area: &str, state: [u8; 4]) -> String {
-    if area == "sender" {
+    if area.starts_with("sender") {
         sender_state_name(state)
     } else {
         receiver_state_name(state)

@@ -1,13 +1,30 @@
-//! Reads, copies and sets the private fields of a receiver.
+//! Reads the private fields of a receiver, and makes one of any fields.
 
 use super::*;
+use crate::fields::ReceiverFields;
 
 impl Receiver {
-    pub fn copy(&self) -> Self {
+    /// A receiver that perhaps no list of calls reaches.
+    pub fn made_up(fields: ReceiverFields) -> Self {
         Self {
-            segments: self.segments.clone(),
-            ..*self
+            peer: fields.peer,
+            protocol: fields.protocol,
+            transaction_id: fields.transaction_id,
+            version: fields.version,
+            maximum_message_octets: fields.maximum_message_octets,
+            state: fields.state,
+            services: fields.services,
+            segments: fields.segments,
+            end_sequence: fields.end_sequence,
+            message_length: fields.message_length,
+            stored_octets: fields.stored_octets,
+            deadline_monotonic_ms: fields.deadline_monotonic_ms,
+            last_monotonic_ms: fields.last_monotonic_ms,
         }
+    }
+
+    pub fn version_code(&self) -> u8 {
+        self.version.code()
     }
 
     pub fn services(&self) -> OptionalServices {
@@ -28,9 +45,5 @@ impl Receiver {
 
     pub fn last_monotonic_ms(&self) -> u64 {
         self.last_monotonic_ms
-    }
-
-    pub fn version_code(&self) -> u8 {
-        self.version.code()
     }
 }

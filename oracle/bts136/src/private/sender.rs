@@ -1,8 +1,48 @@
-//! Reads, copies and sets the private fields of a sender.
+//! Reads and copies the private fields of a sender, and makes one of any fields.
 
 use super::*;
+use crate::fields::SenderFields;
+
+impl Submission {
+    /// A submission of no sender, for the segment at an index of a plan.
+    pub fn made_up(plan: &SegmentedMessage, (index, prepared): (u8, u64)) -> Self {
+        Self {
+            token: Arc::new(()),
+            segment: plan.segments()[usize::from(index)].clone(),
+            prepared_monotonic_ms: prepared,
+        }
+    }
+}
 
 impl Sender {
+    /// A sender that perhaps no list of calls reaches.
+    pub fn made_up(fields: SenderFields) -> Self {
+        let acknowledged = |received: bool| {
+            if received {
+                Acknowledged::Received
+            } else {
+                Acknowledged::Unreported
+            }
+        };
+        let current = fields.current;
+        let current = current.map(|current| Submission::made_up(&fields.plan, current));
+        Self {
+            peer: fields.peer,
+            protocol: fields.protocol,
+            version: fields.version,
+            plan: fields.plan,
+            transaction_id: fields.transaction_id,
+            state: fields.state,
+            current,
+            submitted: fields.submitted,
+            retry: fields.retry,
+            acknowledged: fields.received.into_iter().map(acknowledged).collect(),
+            deadline_monotonic_ms: fields.deadline_monotonic_ms,
+            last_monotonic_ms: fields.last_monotonic_ms,
+            layer3_submissions: fields.layer3_submissions,
+        }
+    }
+
     pub fn copy(&self) -> Self {
         Self {
             plan: self.plan.clone(),
@@ -25,6 +65,11 @@ impl Sender {
             current.segment.sequence_number,
             current.prepared_monotonic_ms,
         ))
+    }
+
+    /// That submission itself.
+    pub fn current_submission(&self) -> Option<Submission> {
+        self.current.clone()
     }
 
     pub fn submitted_marks(&self) -> &[bool] {
