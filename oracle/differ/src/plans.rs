@@ -29,7 +29,7 @@ impl Checker for PlanChecker {
 
     fn check(&mut self, _: &mut Plans, case: &Case, answer: &[u8], table: &mut Table) -> Checked {
         self.plans += 1;
-        let all = self.plans % 16 == 0;
+        let all = self.plans.is_multiple_of(16);
         let mut take = Take(&case.input);
         if case.op == PLAN {
             planner(table.area(PLANNER), &Wanted::take(&mut take), all)

@@ -576,15 +576,11 @@ fn play(open: &mut Open, case: &Case) -> Vec<u8> {
 }
 
 fn inputs(case: &Case, area: &mut Area) {
-    let mut take = Take(&case.input);
-    let late = |reading: u64| reading.abs_diff(LAST_QUEUED) <= 3;
+    let entries = || Reply::take(&mut Take(&case.input)).entries;
+    let queued = || Take(&case.input[9..]).take64();
     match case.op {
-        RESPONSE => {
-            if Reply::take(&mut take).entries == 256 {
-                area.input(FULL_MAP);
-            }
-        }
-        SUBMITTED if late(Take(&case.input[9..]).take64()) => area.input(LATE_SUBMISSION),
+        RESPONSE if entries() == 256 => area.input(FULL_MAP),
+        SUBMITTED if queued().abs_diff(LAST_QUEUED) <= 3 => area.input(LATE_SUBMISSION),
         _ => {}
     }
 }
