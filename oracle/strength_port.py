@@ -67,7 +67,7 @@ error('c16 services on a Continue', D, '''        SegmentType::Continue => {
                 return read_services(s, p);
             }
             if name == LENGTH_PARAMETER {''')
-error('c17 type before protocol bits', D, 'let kind = header / TYPE_PLACE;\n    if kind == RESPONSE_TYPE {', 'let kind = header / TYPE_PLACE % 8;\n    if kind == RESPONSE_TYPE {')
+error('c17 the second protocol bit unread', D, 'if PROTOCOL_PLACE <= header {', 'if 128 <= header {')
 error('c18 a response type tested before the protocol bits', D, '''    if PROTOCOL_PLACE <= header {
         return DecodeAnswer::Refused(Error::Protocol);
     }
@@ -121,8 +121,8 @@ error('f02 budget before codec', F, '''    match segment.validate(head.segment_d
 error('f03 the last octet of the message uncompared', F, 'octets::same(&joined[offset..end], &message[offset..end])', 'n == 0 || octets::same(&joined[offset..end - 1], &message[offset..end - 1])')
 error('f04 octets left over', F, 'if offset != message_octets {', 'if message_octets < offset {')
 error('f05 heads past the count kept', F, '    let kept = kept_heads(heads, count);', '    let kept = heads;')
-error('f06 257 segments', F, 'if MAX_SEGMENTS < count {', 'if MAX_SEGMENTS <= count {')
-error('f07 24 after the first segment', F, '''    if !sums_to(heads, count, joined.len()) {
+error('f06 256 segments refused', F, 'if MAX_SEGMENTS < count {', 'if MAX_SEGMENTS <= count {')
+error('f07 23 in place of 24', F, '''    if !sums_to(heads, count, joined.len()) {
         return refused(PlanningError::JoinedLength);
     }
     let head = heads[0];
@@ -144,7 +144,7 @@ error('w03 marks past 255 in maps of 256 entries', W, '''    if 64 <= k {
     }''', '''    if 64 <= k {
         return 9223372036854775807;
     }''')
-error('l01 widths up to 64', L, 'const MAX_WIDTH: u8 = 63;', 'const MAX_WIDTH: u8 = 62;')
+error('l01 width 63 refused', L, 'const MAX_WIDTH: u8 = 63;', 'const MAX_WIDTH: u8 = 62;')
 error('l02 a value of 2 to the width', L, '1u64 << width <= self.value', '1u64 << width < self.value')
 error('l03 carrier bits: one is enough', L, 'const SEGMENTED_CARRIER_BITS: u8 = 0xc0;', 'const SEGMENTED_CARRIER_BITS: u8 = 0x80;')
 error('l04 the kind of a peer uncompared', L, 'if self.kind != other.kind {', 'if self.kind != self.kind {')
@@ -221,13 +221,13 @@ error('r19 a message of the maximum is too long', R, 'if either(states_above(sta
 error('r20 a failing Begin leaves no services', R, 'return Decision::Fails(Stage::Begun, unserved(compression, crc));', 'return Decision::Fails(Stage::Before, unserved(compression, crc));')
 error('r21 a length error at completion leaves the segment out of the map', R, 'return Decision::Fails(Stage::Keeping, Status::MessageLengthError);', 'return Decision::Fails(Stage::Noted, Status::MessageLengthError);')
 error('r22 timeout maps end at the highest held slot', A, 'if next { next_entry(s) } else { s }', 's')
-error('r23 maps of 257 entries after slot 255', A, '    if s < LAST_SEQUENCE {\n        s + 1', '    if s < 254 {\n        s + 1')
+error('r23 a timeout map after slot 253 has 256 entries', A, '    if s < LAST_SEQUENCE {\n        s + 1', '    if s < 253 {\n        s + 1')
 error('r24 the period counts from 0', A, '(sequence as u16 + 1) % n == 0', 'sequence as u16 % n == 0')
 error('r25 Every16 every 8', A, 'const PERIODS: [u16; 6] = [0, 4, 8, 16, 0, 0];', 'const PERIODS: [u16; 6] = [0, 4, 8, 8, 0, 0];')
 error('r26 Exceptions answers completion', A, 'AcknowledgmentWindow::Exceptions => false,', 'AcknowledgmentWindow::Exceptions => true,')
 error('r27 a support list with CRC', A, '        crc: false,\n    };', '        crc: true,\n    };')
 error('r28 a support list below version 5', A, 'PV5 <= terms.version,', 'PV5 - 1 <= terms.version,')
-error('r29 36 before 38', C, '''            if !taking(state) {
+error('r29 34 before 38 and 36', C, '''            if !taking(state) {
                 return Check::Refused(ReceiveError::Closed);
             }
             let kind = segment.kind;
