@@ -2,9 +2,10 @@
  * catkhize.h: the TSAR core of the bench cell, for C99 and C++.
  *
  * Every call takes numbers and lent octets (a pointer and the number of octets after it) and gives a
- * number of 32 bits. The library keeps nothing between calls, has no heap, calls nothing and may be
- * used from several threads: a machine (receiver or sender) lies whole in a record buffer of the
- * caller's, and calls on different records do not touch one another.
+ * number of 32 bits. The library keeps nothing between calls, uses no heap, needs memcpy and memset of
+ * the C library and no other function, and may be used from several threads: a machine (receiver or
+ * sender) lies whole in a record buffer of the caller's, and calls on different records do not touch
+ * one another.
  *
  * Rules for the caller. The library cannot check them.
  *  - No pointer is NULL, also where its number of octets is 0.
