@@ -97,15 +97,15 @@ fn items(arguments: &Arguments) -> Vec<Item> {
     let mut items = Vec::new();
     for round in 0..arguments.rounds {
         let seed = |part| part_seed(arguments.seed, round, part);
-        items.extend([
-            Item::Sender(seed(0)),
-            Item::Receiver(seed(1)),
-            Item::Train(seed(2)),
-            Item::Plans(seed(3)),
-            Item::Codec(seed(4)),
-            Item::Buffers(seed(5)),
-        ]);
+        items.push(Item::Codec(seed(4)));
         items.extend((0..CODEC_PARTS).map(|part| Item::CodecRandom(seed(6 + part))));
+        items.extend([
+            Item::Plans(seed(3)),
+            Item::Buffers(seed(5)),
+            Item::Receiver(seed(1)),
+            Item::Sender(seed(0)),
+            Item::Train(seed(2)),
+        ]);
     }
     items.extend((0..=255).map(Item::Exhaustive));
     items

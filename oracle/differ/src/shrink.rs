@@ -171,6 +171,8 @@ fn smaller(case: &Case) -> Vec<Case> {
                         .into_iter()
                         .map(|(from, to)| without(case, at + from * width, at + to * width)),
                 );
+                let places = (at..case.input.len()).step_by(width);
+                found.extend(places.flat_map(|place| lower_head(case, place)));
             }
         }
     }
@@ -182,6 +184,9 @@ fn smaller(case: &Case) -> Vec<Case> {
             found.push(with_number(&shorter, 18, 2, length));
         }
     }
+    if case.op == TRAIN {
+        found.extend(shorter_train(case));
+    }
     if case.op == 0x11 {
         found.extend(fewer_heads(case, 26));
     }
@@ -191,7 +196,80 @@ fn smaller(case: &Case) -> Vec<Case> {
     found
 }
 
-/// A frozen plan without some of its heads: count, message and joined data shrink with them.
+/// Lower numbers in a head at a place.
+fn lower_head(case: &Case, mut at: usize) -> Vec<Case> {
+    let mut found = Vec::new();
+    for field in HEAD {
+        if let Number(width) = field
+            && at + width <= case.input.len()
+        {
+            let value = number(&case.input[at..at + width]);
+            let lower = [0, value / 2, value.saturating_sub(1)];
+            let lower = lower.into_iter().filter(|lower| *lower < value);
+            found.extend(lower.map(|lower| with_number(case, at, width, lower)));
+            at += width;
+        }
+    }
+    found
+}
+
+/// A train without some of its segments, or with shorter ones: their lengths, and the lengths of their data, shrink with them.
+fn shorter_train(case: &Case) -> Vec<Case> {
+    const LENGTHS: usize = 22;
+    if case.input.len() < LENGTHS {
+        return Vec::new();
+    }
+    let count = number(&case.input[20..LENGTHS]) as usize;
+    let Some(lengths) = case.input.get(LENGTHS..LENGTHS + 2 * count) else {
+        return Vec::new();
+    };
+    let mut octets = &case.input[LENGTHS + 2 * count..];
+    let mut segments: Vec<(usize, Vec<u8>)> = Vec::new();
+    for length in lengths.chunks(2) {
+        let length = number(length) as usize;
+        let (segment, rest) = octets.split_at(length.min(octets.len()));
+        segments.push((length, segment.to_vec()));
+        octets = rest;
+    }
+    let made = |segments: &[(usize, Vec<u8>)]| {
+        let mut input = case.input[..20].to_vec();
+        input.extend((segments.len() as u16).to_be_bytes());
+        for (length, _) in segments {
+            input.extend((*length as u16).to_be_bytes());
+        }
+        for (_, segment) in segments {
+            input.extend(segment);
+        }
+        Case { op: TRAIN, input }
+    };
+    let mut found = Vec::new();
+    for (from, to) in cuts(segments.len()) {
+        let mut fewer = segments.clone();
+        fewer.drain(from..to);
+        found.push(made(&fewer));
+    }
+    for place in 0..segments.len() {
+        let (length, segment) = &segments[place];
+        let data = segment.get(2).map_or(0, |octet| usize::from(*octet));
+        let data = data.min(segment.len().saturating_sub(3));
+        for (from, to) in cuts(data) {
+            let mut shorter = segments.clone();
+            shorter[place].1.drain(3 + from..3 + to);
+            shorter[place].1[2] -= (to - from) as u8;
+            shorter[place].0 = length - (to - from);
+            found.push(made(&shorter));
+        }
+        if !segment.is_empty() {
+            let mut shorter = segments.clone();
+            shorter[place].1.pop();
+            shorter[place].0 = length.saturating_sub(1);
+            found.push(made(&shorter));
+        }
+    }
+    found
+}
+
+/// A frozen plan without some of its heads: count, message and joined data shrink with them, and the heads after them move up.
 fn fewer_heads(case: &Case, heads: usize) -> Vec<Case> {
     let Some(octets) = case.input.get(heads..) else {
         return Vec::new();
@@ -212,7 +290,13 @@ fn fewer_heads(case: &Case, heads: usize) -> Vec<Case> {
         };
         let fewer = less(&fewer, 0, 2, (to - from) as u64);
         let fewer = less(&fewer, 2, 4, dropped);
-        found.push(less(&fewer, 16, 4, dropped));
+        let mut fewer = less(&fewer, 16, 4, dropped);
+        found.push(fewer.clone());
+        for place in from..count - (to - from) {
+            let sequence = heads + place * HEAD_AND_LENGTH + 1;
+            fewer.input[sequence] = fewer.input[sequence].wrapping_sub((to - from) as u8);
+        }
+        found.push(fewer);
     }
     found
 }
