@@ -21,10 +21,13 @@ const SHORT: u32 = 256 * 80;
 const SPELLS_NONE: u32 = 256 * 81;
 const NAMES_NONE: u32 = 256 * 82;
 
-pub fn run(table: &mut Table, seed: u64) -> Checked {
+pub fn codec(table: &mut Table, seed: u64) -> Checked {
+    segments(table.area("codec"), &mut Random::new(seed))?;
+    answers(table.area("codec"))
+}
+
+pub fn plans(table: &mut Table, seed: u64) -> Checked {
     let random = &mut Random::new(seed);
-    segments(table.area("codec"), random)?;
-    answers(table.area("codec"))?;
     planner(table.area("planner"), random)?;
     frozen(table.area("frozen check"), random)
 }

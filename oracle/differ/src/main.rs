@@ -1,6 +1,8 @@
 //! Compares the original Rust (docs/src) with the exports of the port, over document 01's domain and some inputs beside it.
 //!
-//! differ [--seed S] [--rounds N] [--threads T] [--shrink 0]
+//! differ [--seed S] [--rounds N] [--threads T] [--shrink 0] [--areas LETTERS]
+//!
+//! LETTERS are some of c (codec), p (planner and frozen check), r (receiver), t (trains), s (sender); all of them if none is given.
 //!
 //! It runs through what can be run through whole, then N rounds of random and systematic inputs, prints what it ran, and ends with status
 //! 1 where the two disagree (after the smallest input found), or where a refusal, a state or an input that a run has to have was not seen.
@@ -37,6 +39,7 @@ use watch::{Case, Disagreement, Shared, Sheet, watch};
 /// The seed of the gate's run.
 const SEED: u64 = 136_620;
 const ROUNDS: u64 = 1;
+const AREAS: &str = "cprts";
 /// Random codec cases of a round, beside the systematic ones.
 const CODEC_CASES: usize = 400_000;
 const CODEC_PARTS: u64 = 4;
@@ -53,7 +56,21 @@ enum Item {
     Codec(u64),
     CodecRandom(u64),
     Exhaustive(u8),
-    Buffers(u64),
+    CodecBuffers(u64),
+    PlanBuffers(u64),
+}
+
+impl Item {
+    /// The letter of the area that it belongs to.
+    fn area(self) -> char {
+        match self {
+            Item::Receiver(_) => 'r',
+            Item::Sender(_) => 's',
+            Item::Train(_) => 't',
+            Item::Plans(_) | Item::PlanBuffers(_) => 'p',
+            _ => 'c',
+        }
+    }
 }
 
 struct Arguments {
@@ -61,6 +78,7 @@ struct Arguments {
     rounds: u64,
     threads: usize,
     shrink: bool,
+    areas: String,
 }
 
 fn arguments() -> Option<Arguments> {
@@ -71,10 +89,16 @@ fn arguments() -> Option<Arguments> {
             .map_or(2, usize::from)
             .min(8),
         shrink: true,
+        areas: AREAS.to_owned(),
     };
     let mut words = env::args().skip(1);
     while let Some(word) = words.next() {
-        let number: u64 = words.next()?.parse().ok()?;
+        let value = words.next()?;
+        if word == "--areas" {
+            arguments.areas = value;
+            continue;
+        }
+        let number: u64 = value.parse().ok()?;
         match word.as_str() {
             "--seed" => arguments.seed = number,
             "--rounds" => arguments.rounds = number,
@@ -101,13 +125,15 @@ fn items(arguments: &Arguments) -> Vec<Item> {
         items.extend((0..CODEC_PARTS).map(|part| Item::CodecRandom(seed(6 + part))));
         items.extend([
             Item::Plans(seed(3)),
-            Item::Buffers(seed(5)),
+            Item::CodecBuffers(seed(5)),
+            Item::PlanBuffers(seed(10)),
             Item::Receiver(seed(1)),
             Item::Sender(seed(0)),
             Item::Train(seed(2)),
         ]);
     }
     items.extend((0..=255).map(Item::Exhaustive));
+    items.retain(|item| arguments.areas.contains(item.area()));
     items
 }
 
@@ -149,8 +175,12 @@ fn run(item: Item, sheet: &Shared) {
             let result = codec::exhaustive(sheet.borrow_mut().table.area("codec"), part);
             codec_found(sheet, result);
         }
-        Item::Buffers(seed) => {
-            let result = buffers::run(&mut sheet.borrow_mut().table, seed);
+        Item::CodecBuffers(seed) => {
+            let result = buffers::codec(&mut sheet.borrow_mut().table, seed);
+            found(sheet, "buffers", result.map_err(|what| (Vec::new(), what)));
+        }
+        Item::PlanBuffers(seed) => {
+            let result = buffers::plans(&mut sheet.borrow_mut().table, seed);
             found(sheet, "buffers", result.map_err(|what| (Vec::new(), what)));
         }
     }
@@ -221,7 +251,9 @@ fn print_disagreement(disagreement: &Disagreement) {
 
 fn main() -> ExitCode {
     let Some(arguments) = arguments() else {
-        eprintln!("usage: differ [--seed S] [--rounds N] [--threads T] [--shrink 0]");
+        eprintln!(
+            "usage: differ [--seed S] [--rounds N] [--threads T] [--shrink 0] [--areas LETTERS]"
+        );
         return ExitCode::from(2);
     };
     tokens::check_counting();
@@ -240,7 +272,7 @@ fn main() -> ExitCode {
         print_disagreement(&smallest);
         return ExitCode::FAILURE;
     }
-    let missing = table.missing();
+    let missing = table.missing(&arguments.areas);
     if !missing.is_empty() {
         println!("NEVER SEEN: {}", missing.join("; "));
         return ExitCode::FAILURE;

@@ -105,6 +105,17 @@ const REFUSALS: [(&str, &str); 6] = [
     ),
 ];
 
+/// The letter by which an area is asked for.
+fn letter(area: &str) -> char {
+    match area {
+        "codec" => 'c',
+        "planner" | "frozen check" => 'p',
+        "receiver" => 'r',
+        "train" => 't',
+        _ => 's',
+    }
+}
+
 const RECEIVER_STATES: [[u8; 2]; 12] = [
     [0, 0],
     [1, 0],
@@ -230,12 +241,13 @@ impl Table {
         }
     }
 
-    /// What a run has to see and did not.
-    pub fn missing(&self) -> Vec<String> {
+    /// What a run of the areas with these letters has to see and did not.
+    pub fn missing(&self, letters: &str) -> Vec<String> {
         let mut missing = Vec::new();
         let empty = Area::default();
         let area = |name: &str| self.0.get(name).unwrap_or(&empty);
-        for (name, wanted) in REFUSALS {
+        let runs = |name: &str| letters.contains(letter(name));
+        for (name, wanted) in REFUSALS.into_iter().filter(|(name, _)| runs(name)) {
             let seen: Vec<String> = area(name)
                 .refusals()
                 .map(|(number, _)| refusal_name(number))
@@ -246,18 +258,18 @@ impl Table {
                 }
             }
         }
-        for [state, status] in RECEIVER_STATES {
+        for [state, status] in RECEIVER_STATES.into_iter().filter(|_| runs("receiver")) {
             let state = [state, status, 0, 0];
             if !area("receiver").states.contains_key(&state) {
                 missing.push(format!("receiver: state {}", receiver_state_name(state)));
             }
         }
-        for state in SENDER_STATES {
+        for state in SENDER_STATES.into_iter().filter(|_| runs("sender")) {
             if !area("sender").states.contains_key(&state) {
                 missing.push(format!("sender: state {}", sender_state_name(state)));
             }
         }
-        for (name, input) in INPUTS {
+        for (name, input) in INPUTS.into_iter().filter(|(name, _)| runs(name)) {
             if !area(name).inputs.contains_key(input) {
                 missing.push(format!("{name}: {input}"));
             }
