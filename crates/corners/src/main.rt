@@ -3,5 +3,6 @@
 fn main() {
     corners_codec::codec_corners();
     corners_plan::plan_corners();
+    corners_receiver::receiver_corners();
     corners_sender::sender_corners();
 }
