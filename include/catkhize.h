@@ -452,7 +452,8 @@ uint32_t catkhize_receiver_cancel(
 /* Takes a train: segments one after another in octets, each with its number of octets in lengths (16 bits
  * each). Each is decoded under the record's version and received, all with the same reading; it stops at
  * the first that is refused and gives that refusal. The answer is then written too, and the record spells
- * what the segments before the stop, and a refusal that changes the record, made of it. */
+ * what the segments before the stop, and a refusal that changes the record, made of it. A length past the
+ * octets takes what is left of them; an odd last octet of lengths is passed over. */
 uint32_t catkhize_receiver_train(
     uint8_t *record, size_t record_octets, /* RECEIVER */
     uint8_t *store, size_t store_octets,

@@ -10,6 +10,8 @@ import os, shutil, subprocess, sys, tempfile
 HERE = os.path.dirname(os.path.abspath(__file__))
 REPOSITORY = os.path.dirname(HERE)
 SECONDS = 300
+# Where one round of the driver finds nothing, it runs as many as make a million calls of the machines.
+MORE_ROUNDS = 9
 
 ERRORS = []
 
@@ -171,40 +173,31 @@ error('o01 the last octet uncopied', O, '    while i < n {\n        dst[at + i]'
 
 # ---- receiver
 C, M, R, A, G, S2 = ('receiver/src/' + f for f in ('checks.rt', 'machine.rt', 'rules.rt', 'replies.rt', 'lib.rt', 'states.rt'))
-H = 'receiver/src/faults.rt'
+H, B = 'receiver/src/faults.rt', 'receiver/src/turns.rt'
 error('r01 the last reading from which a deadline fits', C, 'if LATEST_READING < brought.reading {', 'if LATEST_READING <= brought.reading {')
 error('r02 a wait of 299,999 ms', G, 'const REASSEMBLY_MS: u64 = 300_000;', 'const REASSEMBLY_MS: u64 = 299_999;')
 error('r03 the wipe goes past 65,280', M, 'octets::wipe(store, STORE_OCTETS);', 'octets::wipe(store, store.len());')
-error('r04 the wipe stops at what a slot less holds', M, 'octets::wipe(store, STORE_OCTETS);', 'octets::wipe(store, STORE_OCTETS - SLOT_OCTETS);')
-error('r05 slots of 256 octets in keep', M, 'octets::put(store, SLOT_OCTETS * sequence as usize, data);', 'octets::put(store, 256 * sequence as usize, data);')
-error('r06 late at the deadline', M, 'if late(deadline, reading) {', 'if due(deadline, reading) {')
+error('r04 the wipe stops at what a slot less holds', M, 'octets::wipe(store, STORE_OCTETS);', 'octets::wipe(store, STORE_OCTETS - 255);')
+error('r05 slots of 256 octets in keep', B, 'octets::put(store, SLOT_OCTETS * sequence as usize, data);', 'octets::put(store, 256 * sequence as usize, data);')
+error('r06 late at the deadline', B, 'if late(deadline, reading) {', 'if crate::states::due(deadline, reading) {')
 error('r07 advance fires only past the deadline', S2, 'Deadline::At(d) => d <= reading,', 'Deadline::At(d) => d < reading,')
 error('r08 an expired receiver keeps its store', M, '''        if prohibited(window) {
             wipe(store);''', '''        if prohibited(window) {''')
-error('r09 37 takes the reading', M, '''            return Receive {
-                answer: ReceiveAnswer::Refused(ReceiveError::TimerDue),
-                receiver: self,
-            };''', '''            let next = timed(progress, progress.deadline_monotonic_ms, reading);
-            return Receive {
-                answer: ReceiveAnswer::Refused(ReceiveError::TimerDue),
-                receiver: Receiver {
-                    progress: next,
-                    ..self
-                },
-            };''')
-error('r10 38 of a complete receiver takes no reading', M, '''            answer: ReceiveAnswer::Refused(ReceiveError::Closed),
-            receiver: Receiver {
-                progress: next,
-                ..self
-            },''', '''            answer: ReceiveAnswer::Refused(ReceiveError::Closed),
-            receiver: self,''')
-error('r11 a repeat moves no deadline', M, '''    if receiving(state) {
-        Deadline::At(reading + REASSEMBLY_MS)''', '''    if awaiting(state) {
+error('r09 37 takes the reading', B, '''                answer: ReceiveAnswer::Refused(ReceiveError::TimerDue),
+                progress,''', '''                answer: ReceiveAnswer::Refused(ReceiveError::TimerDue),
+                progress: timed(progress, progress.deadline_monotonic_ms, reading),''')
+error('r10 38 of a complete receiver takes no reading', B, '''        let deadline = progress.deadline_monotonic_ms;
+        let next = timed(progress, deadline, reading);
+        Turn {''', '''        let deadline = progress.deadline_monotonic_ms;
+        let next = timed(progress, deadline, progress.last_monotonic_ms);
+        Turn {''')
+error('r11 a repeat moves no deadline', B, '''    if receiving(state) {
+        Deadline::At(reading + REASSEMBLY_MS)''', '''    if crate::states::awaiting(state) {
         Deadline::At(reading + REASSEMBLY_MS)''')
-error('r12 a repeat in Complete sets a deadline', M, '''    if receiving(state) {
-        Deadline::At(reading + REASSEMBLY_MS)''', '''    if receiving(state) || complete(state) {
+error('r12 a repeat in Complete sets a deadline', B, '''    if receiving(state) {
+        Deadline::At(reading + REASSEMBLY_MS)''', '''    if !crate::states::awaiting(state) {
         Deadline::At(reading + REASSEMBLY_MS)''')
-error('r13 a repeat with other data is a repeat', M, 'octets::same(part(store, from, data.len()), data)', 'true')
+error('r13 a repeat with other data is a repeat', B, 'octets::same(part(store, from, data.len()), data)', 'octets::same(data, data)')
 error('r14 a Continue at 255 is held', R, 'if both(is_continue(kind), sequence == LAST_SEQUENCE) {', 'if both(is_continue(kind), false) {')
 error('r15 kinds before repeats', R, '''    if both(place.held, !place.same) {
         return Decision::Fails(Stage::Before, Status::Aborted);
@@ -249,7 +242,7 @@ error('r29 34 before 38 and 36', C, '''            if !taking(state) {
 error('r30 61 asks for 65,280 octets always', C, 'if output < smaller(terms.maximum_message_octets, STORE_OCTETS) {', 'if output < STORE_OCTETS {')
 error('r31 62 without the sum', H, '    if stored != found.sum {\n        return true;\n    }\n', '')
 error('r32 62 where the end itself is not held', H, 'held.none_past(e)', 'held.none_past(e) && held.has(e)')
-error('r33 a message joined without its last segment', M, 'let count = last as usize + 1;', 'let count = last as usize;')
+error('r33 a message joined without its last segment', B, 'let count = last as usize + 1;', 'let count = last as usize;')
 error('r34 the reading of a refused advance is taken', M, '''            Check::Refused(e) => Advance {
                 answer: AdvanceAnswer::Refused(e),
                 receiver: self,
@@ -264,10 +257,10 @@ error('r34 the reading of a refused advance is taken', M, '''            Check::
                 }
             }''')
 error('r35 cancelling a complete receiver', C, 'if either(awaiting(state), receiving(state)) {', 'if taking(state) {')
-error('r36 failure forgets the stated length', M, '''    let message_length = standing.message_length;
-    let progress = Progress {
-        state,''', '''    let message_length = MessageLength::Unstated;
-    let progress = Progress {
+error('r36 failure forgets the stated length', B, '''    let message_length = standing.message_length;
+    Progress {
+        state,''', '''    let message_length = tsar::MessageLength::Unstated;
+    Progress {
         state,''')
 error('r37 closing keeps the held lengths', M, '    let lengths = empty_lengths();\n    let slots = empty_slots();\n    Receiver {', '    let mut lengths = empty_lengths();\n    lengths[0] = 1;\n    let slots = empty_slots();\n    Receiver {')
 
@@ -423,13 +416,17 @@ def reached(name, uses):
     return order
 
 
-def compile_exports(crates, folder):
-    """The exports of a copy of crates/ as one shared library, so that the driver needs no new link. Gives what the compiler says against it."""
+def compile_exports(crates, folder, names):
+    """The exports of a copy of crates/ as one shared library, so that the driver needs no new link: the crates `names` are compiled anew, the
+    others are as they were compiled last. Gives what the compiler says against it."""
     home, own = kit()
     uses = dependencies()
-    archives = []
-    for name in exports():
-        archive = os.path.join(folder, f'lib{name}.a')
+    inner = os.path.join(folder, 'archives')  # not beside the shared library: the driver would be linked with them
+    os.makedirs(inner, exist_ok=True)
+    for name in names:
+        archive = os.path.join(inner, f'lib{name}.a')
+        if os.path.exists(archive):
+            os.remove(archive)
         words = [os.path.join(own, 'bin/rattle-cases'), '--toolchain', os.path.join(own, 'toolchain'), '--staticlib', archive,
                  f'{crates}/{name}/src/lib.rt', '--crate-name', name, '--lib', f'std={home}/libs/std/src/lib.rt']
         for below in reached(name, uses):
@@ -437,12 +434,10 @@ def compile_exports(crates, folder):
         made = subprocess.run(words, capture_output=True, text=True)
         if made.returncode or not os.path.exists(archive):
             return made.stderr or made.stdout
-        archives.append(archive)
+    archives = [os.path.join(inner, f'lib{name}.a') for name in exports()]
     library = os.path.join(folder, 'libcatkhize.so')
     made = subprocess.run(['gcc', '-shared', '-o', library, '-Wl,--whole-archive', *archives, '-Wl,--no-whole-archive'],
                           capture_output=True, text=True)
-    for archive in archives:
-        os.remove(archive)
     return made.stderr if made.returncode else None
 
 
@@ -458,12 +453,20 @@ def apply(crates, file, old, new, nth):
     return True
 
 
-def run(root, library):
+# By the first letter of an error's name: the crates that are compiled anew, and the areas that the driver runs (tools/differ).
+REACH = {'c': (['codec_c'], 'c'), 'p': (['plan_c'], 'p'), 'f': (['plan_c'], 'p'), 'r': (['receiver_c'], 'r'), 's': (['sender_c'], 's')}
+
+
+def reach(name):
+    return REACH.get(name[0], (exports(), 'cprts'))
+
+
+def run(root, library, areas, rounds):
     """What the driver says: None where it finds nothing."""
     environment = dict(os.environ, LD_LIBRARY_PATH=library, RUST_BACKTRACE='0')
     driver = os.path.join(root, 'target/release/differ')
     try:
-        ran = subprocess.run([driver, '--rounds', '1', '--shrink', '0'], env=environment, capture_output=True, text=True, timeout=SECONDS)
+        ran = subprocess.run([driver, '--rounds', str(rounds), '--shrink', '0', '--areas', areas], env=environment, capture_output=True, text=True, timeout=SECONDS)
     except subprocess.TimeoutExpired:
         return f'it runs longer than {SECONDS} s'
     if ran.returncode == 0:
@@ -481,14 +484,16 @@ def main():
     crates = os.path.join(root, 'crates')
     os.mkdir(library)
     source = os.path.join(REPOSITORY, 'crates')
-    said = compile_exports(source, library)
+    said = compile_exports(source, library, exports())
     if said:
         sys.exit(f'the exports do not compile: {said}')
     environment = dict(os.environ, CATKHIZE_LIB_DIR=library, CARGO_TARGET_DIR=os.path.join(root, 'target'))
     subprocess.run(['cargo', 'build', '--offline', '--release', '--quiet', '-p', 'differ'], cwd=HERE, env=environment, check=True)
-    said = run(root, library)
+    said = run(root, library, 'cprts', 1)
     if said:
         sys.exit(f'the exports as they are: {said}')
+    clean = os.path.join(root, 'clean')
+    shutil.copytree(library, clean)
     found, missed, wrong = 0, [], []
     for name, file, old, new, nth in ERRORS:
         if wanted and not name.startswith(tuple(wanted)):
@@ -499,18 +504,25 @@ def main():
             wrong.append(name)
             print(name, 'DOES NOT FIT THE CODE', flush=True)
             continue
-        said = compile_exports(crates, library)
+        names, areas = reach(name)
+        shutil.rmtree(library)
+        shutil.copytree(clean, library)
+        said = compile_exports(crates, library, names)
         if said:
             wrong.append(name)
             print(name, 'DOES NOT COMPILE:', said[:600], flush=True)
             continue
-        said = run(root, library)
+        rounds = 1
+        said = run(root, library, areas, rounds)
+        if said is None:
+            rounds = MORE_ROUNDS
+            said = run(root, library, areas, rounds)
         if said is None:
             missed.append(name)
             print(name, 'MISSED', flush=True)
         else:
             found += 1
-            print(f'{name}: found. {said}', flush=True)
+            print(f'{name}: found in {rounds} round{"s" if rounds > 1 else ""}. {said}', flush=True)
     print(f'{found} found, {len(missed)} missed, {len(wrong)} that do not fit')
     shutil.rmtree(root, ignore_errors=True)
     return 1 if missed or wrong else 0

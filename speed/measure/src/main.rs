@@ -23,18 +23,46 @@ const ROUNDS: usize = 301;
 
 mod port {
     unsafe extern "C" {
-        pub fn catkhize_train(
-            octets: *const u8,
-            octets_len: usize,
-            lengths: *const u8,
-            lengths_len: usize,
+        pub fn catkhize_receiver_new(
+            record: *mut u8,
+            record_len: usize,
+            peer_kind: u8,
+            peer_width: u8,
+            peer_value: u64,
+            protocol: u8,
+            protocol_octet: u8,
+            transaction: u8,
+            version: u8,
+            maximum: u64,
+            reading: u64,
+        ) -> u32;
+        pub fn catkhize_receiver_train(
+            record: *mut u8,
+            record_len: usize,
             store: *mut u8,
             store_len: usize,
             output: *mut u8,
             output_len: usize,
-        ) -> usize;
+            peer_kind: u8,
+            peer_width: u8,
+            peer_value: u64,
+            protocol: u8,
+            protocol_octet: u8,
+            octets: *const u8,
+            octets_len: usize,
+            lengths: *const u8,
+            lengths_len: usize,
+            reading: u64,
+            answer: *mut u8,
+            answer_len: usize,
+        ) -> u32;
     }
 }
+
+/// The octets of a receiver's record and of what a train answers; in the answer, where the number of octets handed over begins.
+const RECORD_OCTETS: usize = 3930;
+const TRAIN_OCTETS: usize = 59;
+const COUNT_AT: usize = 51;
 
 /// Encoded segments one after another, with the number of octets of each in two octets.
 struct Train {
@@ -105,6 +133,7 @@ impl Train {
 
 /// What a program needs beside the train. Filled once, never cleared between runs.
 struct Buffers {
+    record: Vec<u8>,
     store: Vec<u8>,
     output: Vec<u8>,
 }
@@ -114,11 +143,26 @@ enum Program {
     Original,
     Plain,
     Port,
+    Record,
     Copies,
 }
 
 impl Program {
-    const ALL: [Self; 4] = [Self::Original, Self::Plain, Self::Port, Self::Copies];
+    const ALL: [Self; 5] = [
+        Self::Original,
+        Self::Plain,
+        Self::Port,
+        Self::Record,
+        Self::Copies,
+    ];
+
+    /// The number of octets that it rebuilds.
+    fn rebuilds(self) -> usize {
+        match self {
+            Self::Record => 0,
+            _ => MESSAGE_OCTETS,
+        }
+    }
 
     /// The number of octets of the rebuilt message, which is left in the output.
     fn run(self, train: &Train, buffers: &mut Buffers) -> usize {
@@ -135,19 +179,8 @@ impl Program {
                 &mut buffers.store,
                 &mut buffers.output,
             ),
-            // SAFETY: four slices that do not overlap, each as a pointer and its length.
-            Self::Port => unsafe {
-                port::catkhize_train(
-                    train.octets.as_ptr(),
-                    train.octets.len(),
-                    train.lengths.as_ptr(),
-                    train.lengths.len(),
-                    buffers.store.as_mut_ptr(),
-                    buffers.store.len(),
-                    buffers.output.as_mut_ptr(),
-                    buffers.output.len(),
-                )
-            },
+            Self::Port => port(&train.octets, &train.lengths, buffers),
+            Self::Record => port(&[], &[], buffers),
             Self::Copies => copies(train, buffers),
         }
     }
@@ -176,6 +209,59 @@ fn original(train: &Train) -> Vec<u8> {
         }
     }
     message
+}
+
+/// The exports as firmware calls them: the record is made in octets, read off them, taken through the train and put back. With no segments
+/// that leaves the making, reading and putting back.
+#[inline(never)]
+fn port(octets: &[u8], lengths: &[u8], buffers: &mut Buffers) -> usize {
+    let record = &mut buffers.record;
+    // SAFETY: a slice, as a pointer and its length.
+    let made = unsafe {
+        port::catkhize_receiver_new(
+            record.as_mut_ptr(),
+            record.len(),
+            1,
+            34,
+            7,
+            0,
+            1,
+            0,
+            1,
+            MESSAGE_OCTETS as u64,
+            0,
+        )
+    };
+    assert_eq!(made, 0, "these terms are served");
+    let mut answer = [FILL; TRAIN_OCTETS];
+    // SAFETY: six slices that do not overlap, each as a pointer and its length.
+    let taken = unsafe {
+        port::catkhize_receiver_train(
+            record.as_mut_ptr(),
+            record.len(),
+            buffers.store.as_mut_ptr(),
+            buffers.store.len(),
+            buffers.output.as_mut_ptr(),
+            buffers.output.len(),
+            1,
+            34,
+            7,
+            0,
+            1,
+            octets.as_ptr(),
+            octets.len(),
+            lengths.as_ptr(),
+            lengths.len(),
+            0,
+            answer.as_mut_ptr(),
+            answer.len(),
+        )
+    };
+    assert_eq!(taken, 0, "the train is taken");
+    let count = answer[COUNT_AT..]
+        .try_into()
+        .expect("a number has eight octets");
+    u64::from_be_bytes(count) as usize
 }
 
 /// Each segment's data to its slot, then all slots to the output: the octets that a receiver with a store cannot but copy.
@@ -240,6 +326,7 @@ fn main() {
     ]
     .map(|(name, window, order)| (name, Train::new(window, order)));
     let mut buffers = Buffers {
+        record: vec![FILL; RECORD_OCTETS],
         store: vec![FILL; MESSAGE_OCTETS],
         output: vec![FILL; MESSAGE_OCTETS],
     };
@@ -247,8 +334,12 @@ fn main() {
         for program in Program::ALL {
             buffers.store.fill(FILL);
             buffers.output.fill(FILL);
-            assert_eq!(program.run(train, &mut buffers), MESSAGE_OCTETS, "{name}");
-            assert!(buffers.output == train.message, "{name}: another message");
+            let count = program.run(train, &mut buffers);
+            assert_eq!(count, program.rebuilds(), "{name}");
+            assert!(
+                buffers.output[..count] == train.message[..count],
+                "{name}: another message"
+            );
         }
     }
     let mut times = vec![[const { Vec::new() }; Program::ALL.len()]; cases.len()];
@@ -268,14 +359,15 @@ fn main() {
     );
     println!();
     println!(
-        "| Window and order | docs/src | plain Rust | this port | copies | port / plain | port / docs/src |"
+        "| Window and order | docs/src | plain Rust | this port | of it the record's octets | copies | port / plain | without the octets | port / docs/src |"
     );
-    println!("|---|---|---|---|---|---|---|");
+    println!("|---|---|---|---|---|---|---|---|---|");
     for ((name, _), times) in cases.iter().zip(times) {
-        let [original, plain, port, copies] = times.map(median);
+        let [original, plain, port, record, copies] = times.map(median);
         println!(
-            "| {name} | {original:.1} | {plain:.1} | {port:.1} | {copies:.1} | {:.2} | {:.2} |",
+            "| {name} | {original:.1} | {plain:.1} | {port:.1} | {record:.1} | {copies:.1} | {:.2} | {:.2} | {:.2} |",
             port / plain,
+            (port - record) / plain,
             port / original
         );
     }

@@ -1,0 +1,114 @@
+-- What catkhize_plan_message, catkhize_plan_segment and catkhize_try_from_frozen give and leave in each lent buffer: the exports' own tests,
+-- then the definitions of the planner and of the frozen check. A plan comes out as a sender's plan.
+use mathlib.Core.Bool.{Bool, not}
+use mathlib.Core.List.{List, [], _∷_}
+use mathlib.Core.Option.{Option, none, some}
+use Prim.Native.Nat.{ℕ}
+use lib.Dec.{ltb}
+use lib.ListN.{length}
+use lib.Seq.{sets}
+use Rattle.tsar.specs.Rows.{Refusal, refusal}
+use Rattle.segmentation.specs.Plan.{Planning, unsegmented, refused, segmented, planMessage}
+use Rattle.segmentation.specs.Frozen.{Proposal, Checked, noPlan, tryFromFrozen}
+use Rattle.segmentation.specs.declared.SegmentedMessage.{SegmentedMessage}
+use Rattle.segmentation.specs.declared.FrozenMessage.{FrozenMessage}
+use Rattle.segmentation.specs.declared.PlannedSegment.{PlannedSegment}
+use Rattle.segmentation.specs.declared.PlannedSegment.the-variants.{NoSegment, Segment}
+use Rattle.sender.specs.TryNew.{planSegment}
+use Rattle.sender.specs.declared.Plan.{Plan}
+use Rattle.sender.specs.declared.PlanForm.the-variants.{Planned, Frozen}
+use Rattle.image.specs.Cases.{windowOf}
+use Rattle.codec_c.specs.Codes.{codeOf, short, misspelled, unnamed, unlessRefused}
+use Rattle.codec_c.specs.Calls.{partImage}
+use Rattle.plan_image.specs.Frozen.{headsOf, headsOk}
+use Rattle.plan_image.specs.Plans.{planImage, planOf, planOk}
+
+-- ---- a call that writes a plan
+
+-- the number that the call gives, and the plan's octets after it
+pub record PlanCall : Type 0 where
+  pub code : ℕ
+  pub plan : List ℕ
+
+abbrev pub planCall : ℕ → List ℕ → PlanCall
+planCall n plan = record { code = n; plan = plan }
+
+-- the plan p is written
+abbrev pub planWritten : Plan → List ℕ → PlanCall
+planWritten p plan = planCall 0 (sets plan 0 (planImage p))
+
+-- ---- catkhize_plan_message
+
+-- a plan of plan_message, and one that the frozen check accepted, as a sender has them
+abbrev pub plannedPlan : SegmentedMessage → Plan
+plannedPlan p = record { form = Planned p; frozen = noPlan }
+
+abbrev pub frozenPlan : FrozenMessage → Plan
+frozenPlan f = record { form = Frozen; frozen = f }
+
+-- what planning answers, as a call: 1 where the message is not segmented
+abbrev pub planningGives : Planning → List ℕ → PlanCall
+planningGives unsegmented plan = planCall 1 plan
+planningGives (refused r) plan = planCall (codeOf r) plan
+planningGives (segmented p) plan = planWritten (plannedPlan p) plan
+
+-- a plan is 5958 octets, and the windows are 0 to 5
+abbrev pub messageTests : ℕ → List ℕ → List (Bool × Refusal)
+messageTests window plan = (ltb (length plan) 5958, short) ∷ (ltb 5 window, unnamed) ∷ []
+
+unfoldable pub planMessageCall : List ℕ → ℕ → ℕ → ℕ → ℕ → ℕ → List ℕ → PlanCall
+planMessageCall message budget transaction window version ceiling plan =
+    unlessRefused (refusal (messageTests window plan)) (λ n. planCall n plan)
+    (planningGives (planMessage (length message) budget transaction (windowOf window) version ceiling) plan)
+
+-- ---- catkhize_plan_segment
+
+pub record PartCall : Type 0 where
+  pub code : ℕ
+  pub answer : List ℕ
+
+abbrev pub partCall : ℕ → List ℕ → PartCall
+partCall n answer = record { code = n; answer = answer }
+
+-- segment i, as a call: 1 where there is none, else its head and where its data begin in the message
+abbrev pub segmentGives : PlannedSegment → List ℕ → PartCall
+segmentGives NoSegment answer = partCall 1 answer
+segmentGives (Segment p) answer = partCall 0 (sets answer 0 (partImage (p .head) (p .offset)))
+
+-- a plan is 5958 octets and an answer 31
+abbrev pub segmentTests : List ℕ → List ℕ → List (Bool × Refusal)
+segmentTests plan answer = (ltb (length plan) 5958, short) ∷ (ltb (length answer) 31, short) ∷ (not (planOk plan), misspelled) ∷ []
+
+unfoldable pub planSegmentCall : List ℕ → ℕ → List ℕ → PartCall
+planSegmentCall plan index answer =
+    unlessRefused (refusal (segmentTests plan answer)) (λ n. partCall n answer) (segmentGives (planSegment (planOf plan) index) answer)
+
+-- ---- catkhize_try_from_frozen
+
+abbrev pub frozenGives : Option Refusal → FrozenMessage → List ℕ → PlanCall
+frozenGives none f plan = planWritten (frozenPlan f) plan
+frozenGives (some r) f plan = planCall (codeOf r) plan
+
+abbrev pub checkGives : Checked → List ℕ → PlanCall
+checkGives k plan = frozenGives (k .refused) (k .plan) plan
+
+-- heads are 256 of 23 octets, and a plan is 5958
+abbrev pub frozenTests : List ℕ → List ℕ → List (Bool × Refusal)
+frozenTests heads plan = (ltb (length heads) 5888, short) ∷ (ltb (length plan) 5958, short) ∷ (not (headsOk heads), misspelled) ∷ []
+
+abbrev pub proposal : List ℕ → ℕ → List ℕ → List ℕ → ℕ → ℕ → ℕ → Proposal
+proposal heads count joined message budget version ceiling =
+    record {
+      heads = headsOf heads;
+      count = count;
+      joined = joined;
+      message = message;
+      budget = budget;
+      version = version;
+      ceiling = ceiling;
+    }
+
+unfoldable pub tryFromFrozenCall : List ℕ → ℕ → List ℕ → List ℕ → ℕ → ℕ → ℕ → List ℕ → PlanCall
+tryFromFrozenCall heads count joined message budget version ceiling plan =
+    unlessRefused (refusal (frozenTests heads plan)) (λ n. planCall n plan)
+    (checkGives (tryFromFrozen (proposal heads count joined message budget version ceiling)) plan)

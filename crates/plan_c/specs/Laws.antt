@@ -1,0 +1,83 @@
+-- Laws of what the exported planner gives: a call that its own tests refuse, and one that they let pass. Assumes nothing.
+use mathlib.Core.Path.{_≡_, sym, ap, _∙_}
+use mathlib.Core.List.{List}
+use mathlib.Core.Option.{Option, none, some}
+use Prim.Native.Nat.{ℕ}
+use lib.ListN.{length}
+use Rattle.tsar.specs.Rows.{Refusal, refusal}
+use Rattle.tsar.specs.declared.AcknowledgmentWindow.{AcknowledgmentWindow}
+use Rattle.tsar.specs.declared.SegmentHead.{SegmentHead}
+use Rattle.segmentation.specs.Plan.{Planning, planMessage}
+use Rattle.segmentation.specs.Frozen.{Proposal, Checked, tryFromFrozen}
+use Rattle.segmentation.specs.declared.PlannedSegment.{PlannedSegment}
+use Rattle.sender.specs.TryNew.{planSegment}
+use Rattle.sender.specs.declared.Plan.{Plan}
+use Rattle.image.specs.Cases.{windowOf}
+use Rattle.codec_c.specs.Codes.{codeOf, unlessRefused}
+use Rattle.plan_image.specs.Frozen.{headsOf}
+use Rattle.plan_image.specs.Plans.{planOf}
+use Rattle.plan_c.specs.Calls.{planCall, planningGives, messageTests, planMessageCall, partCall, segmentGives, segmentTests, planSegmentCall, checkGives, frozenTests, proposal, tryFromFrozenCall}
+
+-- ---- catkhize_plan_message
+
+module _ (message : List ℕ) (budget transaction window version ceiling : ℕ) (plan : List ℕ) where
+  pub message-refused : (r : Refusal) → refusal (messageTests window plan) ≡ some r
+      → planCall (codeOf r) plan ≡ planMessageCall message budget transaction window version ceiling plan
+  unfolding planMessageCall
+  message-refused r e =
+      ap
+      (λ (o : Option Refusal).
+      unlessRefused o (λ n. planCall n plan) (planningGives (planMessage (length message) budget transaction (windowOf window) version ceiling) plan))
+      (sym e)
+
+  pub message-passed : (w : AcknowledgmentWindow) → refusal (messageTests window plan) ≡ none → w ≡ windowOf window
+      → planningGives (planMessage (length message) budget transaction w version ceiling) plan ≡ planMessageCall message budget transaction window version ceiling plan
+  unfolding planMessageCall
+  message-passed w e q =
+      ap (λ (x : AcknowledgmentWindow). planningGives (planMessage (length message) budget transaction x version ceiling) plan) q
+      ∙ ap
+      (λ (o : Option Refusal).
+      unlessRefused o (λ n. planCall n plan) (planningGives (planMessage (length message) budget transaction (windowOf window) version ceiling) plan))
+      (sym e)
+
+-- ---- catkhize_plan_segment
+
+module _ (plan : List ℕ) (index : ℕ) (answer : List ℕ) where
+  pub segment-refused : (r : Refusal) → refusal (segmentTests plan answer) ≡ some r → partCall (codeOf r) answer ≡ planSegmentCall plan index answer
+  unfolding planSegmentCall
+  segment-refused r e =
+      ap (λ (o : Option Refusal). unlessRefused o (λ n. partCall n answer) (segmentGives (planSegment (planOf plan) index) answer)) (sym e)
+
+  pub segment-passed : (p : Plan) → refusal (segmentTests plan answer) ≡ none → p ≡ planOf plan → segmentGives (planSegment p index) answer ≡ planSegmentCall plan index answer
+  unfolding planSegmentCall
+  segment-passed p e q =
+      ap (λ (x : Plan). segmentGives (planSegment x index) answer) q
+      ∙ ap (λ (o : Option Refusal). unlessRefused o (λ n. partCall n answer) (segmentGives (planSegment (planOf plan) index) answer)) (sym e)
+
+-- ---- catkhize_try_from_frozen
+
+module _ (heads : List ℕ) (count : ℕ) (joined message : List ℕ) (budget version ceiling : ℕ) (plan : List ℕ) where
+  pub frozen-refused : (r : Refusal) → refusal (frozenTests heads plan) ≡ some r
+      → planCall (codeOf r) plan ≡ tryFromFrozenCall heads count joined message budget version ceiling plan
+  unfolding tryFromFrozenCall
+  frozen-refused r e =
+      ap
+      (λ (o : Option Refusal).
+      unlessRefused o (λ n. planCall n plan) (checkGives (tryFromFrozen (proposal heads count joined message budget version ceiling)) plan))
+      (sym e)
+
+  pub frozen-passed : (hs : List SegmentHead) → refusal (frozenTests heads plan) ≡ none → hs ≡ headsOf heads
+      → checkGives
+      (tryFromFrozen (record { heads = hs; count = count; joined = joined; message = message; budget = budget; version = version; ceiling = ceiling })) plan
+      ≡ tryFromFrozenCall heads count joined message budget version ceiling plan
+  unfolding tryFromFrozenCall
+  frozen-passed hs e q =
+      ap
+      (λ (x : List SegmentHead).
+      checkGives
+      (tryFromFrozen (record { heads = x; count = count; joined = joined; message = message; budget = budget; version = version; ceiling = ceiling })) plan)
+      q
+      ∙ ap
+      (λ (o : Option Refusal).
+      unlessRefused o (λ n. planCall n plan) (checkGives (tryFromFrozen (proposal heads count joined message budget version ceiling)) plan))
+      (sym e)

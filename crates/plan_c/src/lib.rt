@@ -1,0 +1,181 @@
+// The exported planner and frozen check, on numbers and octet slices. A plan comes out as a sender's plan (PLAN).
+use codec_c::PART_OCTETS;
+use codec_c::codes::DONE;
+use codec_c::codes::MISSPELLED;
+use codec_c::codes::NOTHING;
+use codec_c::codes::SHORT;
+use codec_c::codes::UNNAMED;
+use codec_c::codes::error_code;
+use codec_c::put_part;
+use image::cases::window_of;
+use plan_image::PLAN_OCTETS;
+use plan_image::get_heads;
+use plan_image::get_plan;
+use plan_image::put_plan;
+use segmentation::FrozenAnswer;
+use segmentation::FrozenCheck;
+use segmentation::MessagePlan;
+use segmentation::PlannedSegment;
+use segmentation::PlanningError;
+use segmentation::frozen::try_from_frozen;
+use segmentation::plan::plan_message;
+use sender::Plan;
+ghost use mathlib.Core.Path.{_≡_};
+ghost use Prim.Native.Nat.{_≤_};
+ghost use lib.ListN.{length};
+ghost use Rattle.segmentation.specs.Numbers.{planningNumber};
+ghost use Rattle.segmentation.specs.Plan.{plannedBy};
+ghost use Rattle.segmentation.specs.Frozen.{checkedBy};
+ghost use Rattle.codec_c.specs.Codes.{codeOf};
+ghost use Rattle.plan_c.specs.Calls.{planCall, planningGives, planMessageCall, partCall, segmentGives, planSegmentCall, checkGives, tryFromFrozenCall};
+
+// The last window's number.
+const LAST_WINDOW: u8 = 5;
+
+// 256 heads.
+const HEADS_OCTETS: usize = 5888;
+
+// What a call gives that the planner or the frozen check refuses: 256 * n for document 01's refusal n, or the codec's own.
+fn planning_code(e: PlanningError) -> u32
+    ensures { λ r. ⌜ r ≡ codeOf (planningNumber e) ⌝ }
+{
+    match e {
+        PlanningError::PayloadBudget => 256 * 20,
+        PlanningError::HeaderCapacity => 256 * 21,
+        PlanningError::SegmentCount => 256 * 22,
+        PlanningError::FrozenPlan => 256 * 23,
+        PlanningError::JoinedLength => 256 * 24,
+        PlanningError::Codec(error) => error_code(error),
+    }
+}
+
+// What plan_message gave: a plan is put into plan.
+fn put_planning(given: MessagePlan, plan: &mut [u8]) -> u32
+    requires { ⌜ 5958 ≤ length (now plan) ⌝ }
+    ensures { λ r. ⌜ planCall r (now (plan .exit)) ≡ planningGives (plannedBy given) (now (plan .entry)) ⌝ }
+{
+    match given {
+        MessagePlan::Unsegmented => NOTHING,
+        MessagePlan::Refused(e) => planning_code(e),
+        MessagePlan::Segmented(p) => {
+            put_plan(plan, Plan::planned(p));
+            DONE
+        }
+    }
+}
+
+// Plans the segments of a message. The plan is put into plan.
+#[no_mangle]
+pub extern "C" fn catkhize_plan_message(
+    message: &[u8],
+    budget: u64,
+    transaction: u8,
+    window: u8,
+    version: u8,
+    ceiling: u64,
+    plan: &mut [u8],
+) -> u32
+    ensures { λ r. ⌜ planCall r (now (plan .exit)) ≡ planMessageCall (now (message .entry)) budget transaction window version ceiling (now (plan .entry)) ⌝ }
+{
+    if plan.len() < PLAN_OCTETS {
+        return SHORT;
+    }
+    if LAST_WINDOW < window {
+        return UNNAMED;
+    }
+    let given = plan_message(
+        message,
+        budget as usize,
+        transaction,
+        window_of(window),
+        version,
+        ceiling as usize,
+    );
+    put_planning(given, plan)
+}
+
+// Segment i, where there is one, is put into answer.
+fn put_segment(given: PlannedSegment, answer: &mut [u8]) -> u32
+    ensures { λ r. ⌜ partCall r (now (answer .exit)) ≡ segmentGives given (now (answer .entry)) ⌝ }
+{
+    match given {
+        PlannedSegment::NoSegment => NOTHING,
+        PlannedSegment::Segment(part) => {
+            let head = part.head;
+            put_part(answer, head, part.offset);
+            DONE
+        }
+    }
+}
+
+// Segment i of the plan that PLAN spells, of either form. Answers PART.
+#[no_mangle]
+pub extern "C" fn catkhize_plan_segment(plan: &[u8], index: u8, answer: &mut [u8]) -> u32
+    ensures { λ r. ⌜ partCall r (now (answer .exit)) ≡ planSegmentCall (now (plan .entry)) index (now (answer .entry)) ⌝ }
+{
+    if plan.len() < PLAN_OCTETS {
+        return SHORT;
+    }
+    if answer.len() < PART_OCTETS {
+        return SHORT;
+    }
+    let read = get_plan(plan);
+    if !read.ok {
+        return MISSPELLED;
+    }
+    let p = read.plan;
+    put_segment(p.segment(index), answer)
+}
+
+// What the frozen check gave: a plan that it accepted is put into plan.
+fn put_checked(checked: FrozenCheck, plan: &mut [u8]) -> u32
+    requires { ⌜ 5958 ≤ length (now plan) ⌝ }
+    ensures { λ r. ⌜ planCall r (now (plan .exit)) ≡ checkGives (checkedBy checked) (now (plan .entry)) ⌝ }
+{
+    let answer = checked.answer;
+    match answer {
+        FrozenAnswer::Refused(e) => planning_code(e),
+        FrozenAnswer::Accepted => {
+            let frozen = checked.plan;
+            put_plan(plan, Plan::frozen(frozen));
+            DONE
+        }
+    }
+}
+
+// The frozen check of count segments, whose heads HEADS spells. The plan is put into plan.
+#[no_mangle]
+pub extern "C" fn catkhize_try_from_frozen(
+    heads: &[u8],
+    count: u64,
+    joined: &[u8],
+    message: &[u8],
+    budget: u64,
+    version: u8,
+    ceiling: u64,
+    plan: &mut [u8],
+) -> u32
+    ensures { λ r. ⌜ planCall r (now (plan .exit)) ≡ tryFromFrozenCall (now (heads .entry)) count (now (joined .entry)) (now (message .entry)) budget version ceiling (now (plan .entry)) ⌝ }
+{
+    if heads.len() < HEADS_OCTETS {
+        return SHORT;
+    }
+    if plan.len() < PLAN_OCTETS {
+        return SHORT;
+    }
+    let spelled = get_heads(heads);
+    if !spelled.ok {
+        return MISSPELLED;
+    }
+    let given = spelled.heads;
+    let checked = try_from_frozen(
+        given,
+        count as usize,
+        joined,
+        message,
+        budget as usize,
+        version,
+        ceiling as usize,
+    );
+    put_checked(checked, plan)
+}

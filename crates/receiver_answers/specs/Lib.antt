@@ -1,0 +1,2 @@
+-- What a receiver answers, in numbers and octets.
+pub mod Answers

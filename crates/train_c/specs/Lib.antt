@@ -1,0 +1,5 @@
+-- A train of segments in one call: what its segments do one after another (Walk), what the call gives and leaves (Calls), and the laws of
+-- both (Laws).
+pub mod Walk
+pub mod Calls
+pub mod Laws
