@@ -378,14 +378,6 @@ error('s39 the offer of another segment', X, 'offer_of(self.terms.number, x, pla
 error('s40 a version below 1 taken', X, 'if version < PV1 {', 'if version + 1 < PV1 {')
 
 
-def exports():
-    """The crates that export an entry."""
-    crates = os.path.join(REPOSITORY, 'crates')
-    sources = {name: os.path.join(crates, name, 'src') for name in sorted(os.listdir(crates))}
-    entries = lambda folder: any('extern "C" fn catkhize_' in open(os.path.join(folder, file)).read() for file in os.listdir(folder))
-    return [name for name, folder in sources.items() if os.path.isdir(folder) and entries(folder)]
-
-
 def kit():
     """The kit's folder, and that of this kind of machine in it."""
     home = os.path.dirname(os.path.dirname(subprocess.run(['rt', 'doc'], capture_output=True, text=True, check=True).stdout.strip()))
@@ -416,27 +408,21 @@ def reached(name, uses):
     return order
 
 
-def compile_exports(crates, folder, names):
-    """The exports of a copy of crates/ as one shared library, so that the driver needs no new link: the crates `names` are compiled anew, the
-    others are as they were compiled last. Gives what the compiler says against it."""
+def compile_exports(crates, folder):
+    """The exports of a copy of crates/ as a shared library, so that the driver needs no new link. Gives what the compiler says against it."""
     home, own = kit()
-    uses = dependencies()
-    inner = os.path.join(folder, 'archives')  # not beside the shared library: the driver would be linked with them
-    os.makedirs(inner, exist_ok=True)
-    for name in names:
-        archive = os.path.join(inner, f'lib{name}.a')
-        if os.path.exists(archive):
-            os.remove(archive)
-        words = [os.path.join(own, 'bin/rattle-cases'), '--toolchain', os.path.join(own, 'toolchain'), '--staticlib', archive,
-                 f'{crates}/{name}/src/lib.rt', '--crate-name', name, '--lib', f'std={home}/libs/std/src/lib.rt']
-        for below in reached(name, uses):
-            words += ['--lib', f'{below}={crates}/{below}/src/lib.rt']
-        made = subprocess.run(words, capture_output=True, text=True)
-        if made.returncode or not os.path.exists(archive):
-            return made.stderr or made.stdout
-    archives = [os.path.join(inner, f'lib{name}.a') for name in exports()]
+    archive = os.path.join(os.path.dirname(folder), 'libcatkhize.a')  # not beside the shared library: the driver would be linked with it
+    if os.path.exists(archive):
+        os.remove(archive)
+    words = [os.path.join(own, 'bin/rattle-cases'), '--toolchain', os.path.join(own, 'toolchain'), '--staticlib', archive,
+             f'{crates}/catkhize/src/lib.rt', '--crate-name', 'catkhize', '--lib', f'std={home}/libs/std/src/lib.rt']
+    for below in reached('catkhize', dependencies()):
+        words += ['--lib', f'{below}={crates}/{below}/src/lib.rt']
+    made = subprocess.run(words, capture_output=True, text=True)
+    if made.returncode or not os.path.exists(archive):
+        return made.stderr or made.stdout
     library = os.path.join(folder, 'libcatkhize.so')
-    made = subprocess.run(['gcc', '-shared', '-o', library, '-Wl,--whole-archive', *archives, '-Wl,--no-whole-archive'],
+    made = subprocess.run(['gcc', '-shared', '-o', library, '-Wl,--whole-archive', archive, '-Wl,--no-whole-archive'],
                           capture_output=True, text=True)
     return made.stderr if made.returncode else None
 
@@ -453,12 +439,8 @@ def apply(crates, file, old, new, nth):
     return True
 
 
-# By the first letter of an error's name: the crates that are compiled anew, and the areas that the driver runs (tools/differ).
-REACH = {'c': (['codec_c'], 'c'), 'p': (['plan_c'], 'p'), 'f': (['plan_c'], 'p'), 'r': (['receiver_c'], 'r'), 's': (['sender_c'], 's')}
-
-
-def reach(name):
-    return REACH.get(name[0], (exports(), 'cprts'))
+# By the first letter of an error's name: the areas that the driver runs (tools/differ).
+AREAS = {'c': 'c', 'p': 'p', 'f': 'p', 'r': 'r', 's': 's'}
 
 
 def run(root, library, areas, rounds):
@@ -484,7 +466,7 @@ def main():
     crates = os.path.join(root, 'crates')
     os.mkdir(library)
     source = os.path.join(REPOSITORY, 'crates')
-    said = compile_exports(source, library, exports())
+    said = compile_exports(source, library)
     if said:
         sys.exit(f'the exports do not compile: {said}')
     environment = dict(os.environ, CATKHIZE_LIB_DIR=library, CARGO_TARGET_DIR=os.path.join(root, 'target'))
@@ -492,8 +474,6 @@ def main():
     said = run(root, library, 'cprts', 1)
     if said:
         sys.exit(f'the exports as they are: {said}')
-    clean = os.path.join(root, 'clean')
-    shutil.copytree(library, clean)
     found, missed, wrong = 0, [], []
     for name, file, old, new, nth in ERRORS:
         if wanted and not name.startswith(tuple(wanted)):
@@ -504,10 +484,8 @@ def main():
             wrong.append(name)
             print(name, 'DOES NOT FIT THE CODE', flush=True)
             continue
-        names, areas = reach(name)
-        shutil.rmtree(library)
-        shutil.copytree(clean, library)
-        said = compile_exports(crates, library, names)
+        areas = AREAS.get(name[0], 'cprts')
+        said = compile_exports(crates, library)
         if said:
             wrong.append(name)
             print(name, 'DOES NOT COMPILE:', said[:600], flush=True)

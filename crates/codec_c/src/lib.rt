@@ -51,8 +51,7 @@ fn encode_into(
 }
 
 // Writes the segment that SEGMENT spells, with its data, into output. Answers WRITTEN.
-#[no_mangle]
-pub extern "C" fn catkhize_encode(
+pub fn catkhize_encode(
     segment: &[u8],
     data: &[u8],
     version: u8,
@@ -100,8 +99,7 @@ pub fn put_part(answer: &mut [u8], head: SegmentHead, number: usize)
 }
 
 // Reads a segment of the octets. Answers DECODED.
-#[no_mangle]
-pub extern "C" fn catkhize_decode(octets: &[u8], version: u8, answer: &mut [u8]) -> u32
+pub fn catkhize_decode(octets: &[u8], version: u8, answer: &mut [u8]) -> u32
     ensures { λ r. ⌜ decodeCall r (now (answer .exit)) ≡ decodeCallOf (now (octets .entry)) version (now (answer .entry)) ⌝ }
 {
     if answer.len() < PART_OCTETS {

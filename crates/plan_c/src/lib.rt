@@ -65,8 +65,7 @@ fn put_planning(given: MessagePlan, plan: &mut [u8]) -> u32
 }
 
 // Plans the segments of a message. The plan is put into plan.
-#[no_mangle]
-pub extern "C" fn catkhize_plan_message(
+pub fn catkhize_plan_message(
     message: &[u8],
     budget: u64,
     transaction: u8,
@@ -109,8 +108,7 @@ fn put_segment(given: PlannedSegment, answer: &mut [u8]) -> u32
 }
 
 // Segment i of the plan that PLAN spells, of either form. Answers PART.
-#[no_mangle]
-pub extern "C" fn catkhize_plan_segment(plan: &[u8], index: u8, answer: &mut [u8]) -> u32
+pub fn catkhize_plan_segment(plan: &[u8], index: u8, answer: &mut [u8]) -> u32
     ensures { λ r. ⌜ partCall r (now (answer .exit)) ≡ planSegmentCall (now (plan .entry)) index (now (answer .entry)) ⌝ }
 {
     if plan.len() < PLAN_OCTETS {
@@ -144,8 +142,7 @@ fn put_checked(checked: FrozenCheck, plan: &mut [u8]) -> u32
 }
 
 // The frozen check of count segments, whose heads HEADS spells. The plan is put into plan.
-#[no_mangle]
-pub extern "C" fn catkhize_try_from_frozen(
+pub fn catkhize_try_from_frozen(
     heads: &[u8],
     count: u64,
     joined: &[u8],

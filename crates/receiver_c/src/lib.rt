@@ -51,8 +51,7 @@ fn put_made(record: &mut [u8], given: TryNew) -> u32
 }
 
 // Makes a receiver of one transaction with a peer. The record is put into record.
-#[no_mangle]
-pub extern "C" fn catkhize_receiver_new(
+pub fn catkhize_receiver_new(
     record: &mut [u8],
     peer_kind: u8,
     peer_width: u8,
@@ -123,8 +122,7 @@ fn receive_into(
 }
 
 // Takes the segment that SEGMENT spells, with its data. Answers RECEPTION.
-#[no_mangle]
-pub extern "C" fn catkhize_receiver_receive(
+pub fn catkhize_receiver_receive(
     record: &mut [u8],
     store: &mut [u8],
     output: &mut [u8],
@@ -203,8 +201,7 @@ fn advance_into(
 }
 
 // Takes a reading of the clock, at which a deadline may be due. Answers REPLY.
-#[no_mangle]
-pub extern "C" fn catkhize_receiver_advance(
+pub fn catkhize_receiver_advance(
     record: &mut [u8],
     store: &mut [u8],
     reading: u64,
@@ -239,8 +236,7 @@ fn cancel_into(receiver: Receiver, record: &mut [u8], store: &mut [u8], reading:
 }
 
 // Cancels the reception.
-#[no_mangle]
-pub extern "C" fn catkhize_receiver_cancel(record: &mut [u8], store: &mut [u8], reading: u64) -> u32
+pub fn catkhize_receiver_cancel(record: &mut [u8], store: &mut [u8], reading: u64) -> u32
     ensures { λ r. ⌜ call r (now («record» .exit)) (now (store .exit)) [] [] ≡ cancelCall (now («record» .entry)) (now (store .entry)) reading ⌝ }
 {
     if record.len() < RECEIVER_OCTETS {

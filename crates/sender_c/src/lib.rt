@@ -79,8 +79,7 @@ fn put_made(record: &mut [u8], given: Sent) -> u32
 }
 
 // Writes the sender of a plan and its message, which PLAN spells, to the record.
-#[no_mangle]
-pub extern "C" fn catkhize_sender_new(
+pub fn catkhize_sender_new(
     record: &mut [u8],
     peer_kind: u8,
     peer_width: u8,
@@ -122,8 +121,7 @@ pub extern "C" fn catkhize_sender_new(
 }
 
 // Lets time pass. Answers STATE, as the next five do.
-#[no_mangle]
-pub extern "C" fn catkhize_sender_advance(record: &mut [u8], reading: u64, answer: &mut [u8]) -> u32
+pub fn catkhize_sender_advance(record: &mut [u8], reading: u64, answer: &mut [u8]) -> u32
     ensures { λ r. ⌜ Met (stateTests (now («record» .entry)) (now (answer .entry))) (now («record» .entry)) (now (answer .entry)) (advanceStep (now («record» .entry)) reading) (call r (now («record» .exit)) (now (answer .exit))) ⌝ }
 {
     if record.len() < SENDER_OCTETS {
@@ -141,8 +139,7 @@ pub extern "C" fn catkhize_sender_advance(record: &mut [u8], reading: u64, answe
 }
 
 // Ends an open sender.
-#[no_mangle]
-pub extern "C" fn catkhize_sender_cancel(record: &mut [u8], reading: u64, answer: &mut [u8]) -> u32
+pub fn catkhize_sender_cancel(record: &mut [u8], reading: u64, answer: &mut [u8]) -> u32
     ensures { λ r. ⌜ Met (stateTests (now («record» .entry)) (now (answer .entry))) (now («record» .entry)) (now (answer .entry)) (cancelStep (now («record» .entry)) reading) (call r (now («record» .exit)) (now (answer .exit))) ⌝ }
 {
     if record.len() < SENDER_OCTETS {
@@ -160,8 +157,7 @@ pub extern "C" fn catkhize_sender_cancel(record: &mut [u8], reading: u64, answer
 }
 
 // Layer 3 took the submission at the reading queued, which is seen at the reading observed.
-#[no_mangle]
-pub extern "C" fn catkhize_sender_submitted(
+pub fn catkhize_sender_submitted(
     record: &mut [u8],
     number: u64,
     ticket: u64,
@@ -190,8 +186,7 @@ pub extern "C" fn catkhize_sender_submitted(
 }
 
 // The peer's Layer 3 accepted the submission.
-#[no_mangle]
-pub extern "C" fn catkhize_sender_accepted(
+pub fn catkhize_sender_accepted(
     record: &mut [u8],
     number: u64,
     ticket: u64,
@@ -215,8 +210,7 @@ pub extern "C" fn catkhize_sender_accepted(
 }
 
 // Layer 3 gave the submission up.
-#[no_mangle]
-pub extern "C" fn catkhize_sender_lower_failed(
+pub fn catkhize_sender_lower_failed(
     record: &mut [u8],
     number: u64,
     ticket: u64,
@@ -250,8 +244,7 @@ pub extern "C" fn catkhize_sender_lower_failed(
 }
 
 // Takes the response of the peer that RESPONSE spells, with the number of bits that its decoding left.
-#[no_mangle]
-pub extern "C" fn catkhize_sender_receive_response(
+pub fn catkhize_sender_receive_response(
     record: &mut [u8],
     peer_kind: u8,
     peer_width: u8,
@@ -301,8 +294,7 @@ pub extern "C" fn catkhize_sender_receive_response(
 }
 
 // What is offered to Layer 3 now: answers SUBMISSION, and changes nothing else.
-#[no_mangle]
-pub extern "C" fn catkhize_sender_submission(record: &[u8], answer: &mut [u8]) -> u32
+pub fn catkhize_sender_submission(record: &[u8], answer: &mut [u8]) -> u32
     ensures { λ r. ⌜ call r (now («record» .entry)) (now (answer .exit)) ≡ offerCall (offerTests (now («record» .entry)) (now (answer .entry))) (now («record» .entry)) (now (answer .entry)) (offerOf (recordOf (now («record» .entry)))) ⌝ }
 {
     if record.len() < SENDER_OCTETS {

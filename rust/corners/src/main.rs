@@ -1,0 +1,25 @@
+//! The corners of document 01 and the boundary of each refusal, run on the exports and compared with what document 01 says, a line for each
+//! group. A case that comes out otherwise is printed, and the status is then 1.
+
+mod codec;
+mod octets;
+mod plan;
+mod receiver;
+mod sender;
+mod tally;
+
+use std::process::ExitCode;
+use tally::Tally;
+
+fn main() -> ExitCode {
+    let mut tally = Tally::default();
+    codec::corners(&mut tally);
+    plan::corners(&mut tally);
+    receiver::corners(&mut tally);
+    sender::corners(&mut tally);
+    if tally.differ == 0 {
+        ExitCode::SUCCESS
+    } else {
+        ExitCode::FAILURE
+    }
+}

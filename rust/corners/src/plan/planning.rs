@@ -1,0 +1,309 @@
+//! The planner: document 01's corners and the boundary of each refusal. A plan's record is compared whole; its segments, one after
+//! another, have to be the message, each is written and read back, and the frozen check takes them.
+
+use super::{Heads, frozen_plan, proposed, wrong_part};
+use crate::octets::{
+    PAST, Segment, at_front, begin, difference, end, filled, head, later, pattern, refusal, window,
+};
+use crate::tally::{Group, Tally};
+use catkhize::AcknowledgmentWindow::{self, Every4, Every8, Every16, Exceptions, Last, Prohibited};
+use catkhize::{MessagePlan, calls, layout, plan_message};
+
+const SEED: u8 = 11;
+
+/// What is asked beside the message.
+#[derive(Clone, Copy)]
+struct Asked {
+    budget: u64,
+    transaction: u8,
+    window: AcknowledgmentWindow,
+    version: u8,
+    ceiling: u64,
+}
+
+/// How a message is cut: how many segments, the data octets of the Begin and of a later one, whether the Begin states the length.
+#[derive(Clone, Copy)]
+struct Cut(u64, u64, u64, bool);
+
+/// A budget and a window, with transaction 5, version 1 and a high ceiling.
+fn ask(budget: u64, window: AcknowledgmentWindow) -> Asked {
+    Asked {
+        budget,
+        transaction: 5,
+        window,
+        version: 1,
+        ceiling: 100_000,
+    }
+}
+
+impl Asked {
+    /// What planning the message gives, and the record.
+    fn plan(self, message: &[u8]) -> (u32, Vec<u8>) {
+        let mut plan = filled(layout::PLAN + PAST);
+        let given = calls::plan_message(
+            message,
+            self.budget,
+            self.transaction,
+            self.window as u8,
+            self.version,
+            self.ceiling,
+            &mut plan,
+        );
+        (given, plan)
+    }
+
+    /// PLAN of a message that is cut so.
+    fn record(self, octets: usize, cut: Cut) -> Vec<u8> {
+        let Cut(count, begin, later, states_length) = cut;
+        let mut plan = vec![layout::LAYOUT_VERSION, 0];
+        plan.extend((octets as u64).to_be_bytes());
+        plan.extend(self.budget.to_be_bytes());
+        plan.extend([self.transaction, self.window as u8]);
+        for number in [begin, later, count] {
+            plan.extend(number.to_be_bytes());
+        }
+        plan.push(u8::from(states_length));
+        plan.resize(layout::PLAN, 0);
+        at_front(&plan, layout::PLAN + PAST)
+    }
+
+    /// The segments of a message that is cut so: the last one has the rest.
+    fn heads(self, octets: usize, cut: Cut) -> Vec<(Segment, u64)> {
+        let Cut(count, first, each, states_length) = cut;
+        let services = window(self.window).filter(|_| self.window != Prohibited);
+        let length = states_length.then_some(octets as u16);
+        let mut heads = vec![(begin(self.transaction, length, services), first)];
+        for index in 1..count - 1 {
+            heads.push((later(self.transaction, index as u8, None), each));
+        }
+        let rest = octets as u64 - first - each * (count - 2);
+        let last = end(self.transaction, (count - 1) as u8, None, None);
+        heads.push((last, rest));
+        heads
+    }
+}
+
+/// Whether a segment can be written within the budget, and reads back.
+fn travels(segment: Segment, data: &[u8], asked: Asked) -> bool {
+    let mut output = [0; layout::ENCODING];
+    let mut written = [0; layout::WRITTEN];
+    let given = calls::encode(&segment, data, asked.version, &mut output, &mut written);
+    let written = u64::from_be_bytes(written);
+    if given != 0 || written > asked.budget {
+        return false;
+    }
+    let mut decoded = [0; layout::DECODED];
+    let given = calls::decode(&output[..written as usize], asked.version, &mut decoded);
+    let whole = [&head(segment, data.len() as u64)[..], &[0; 8]].concat();
+    given == 0 && decoded[..] == whole && output[3..].starts_with(data)
+}
+
+/// The first segment that does not travel with its part of the message.
+fn stuck(heads: Heads, message: &[u8], asked: Asked) -> Option<usize> {
+    let mut rest = message;
+    heads.iter().position(|(segment, octets)| {
+        let (data, after) = rest.split_at(*octets as usize);
+        rest = after;
+        !travels(*segment, data, asked)
+    })
+}
+
+/// The frozen check on segments that were planned, with the budget for a ceiling.
+fn freeze(heads: Heads, message: &[u8], asked: Asked) -> (u32, Vec<u8>) {
+    let mut plan = filled(layout::PLAN + PAST);
+    let given = calls::try_from_frozen(
+        &proposed(heads),
+        heads.len() as u64,
+        message,
+        message,
+        asked.budget,
+        asked.version,
+        asked.budget,
+        &mut plan,
+    );
+    (given, plan)
+}
+
+/// A message of so many octets is cut so.
+fn plans(g: &mut Group, octets: usize, asked: Asked, cut: Cut) {
+    let message = pattern(octets, SEED);
+    let heads = asked.heads(octets, cut);
+    let (planned, plan) = asked.plan(&message);
+    let (accepted, frozen) = freeze(&heads, &message, asked);
+    let wanted_frozen = frozen_plan(&heads, &message, asked.budget, asked.window);
+    g.case(
+        (
+            (planned, difference(&plan, &asked.record(octets, cut))),
+            wrong_part(&plan, &heads),
+            stuck(&heads, &message, asked),
+            (accepted, difference(&frozen, &wanted_frozen)),
+        ),
+        ((0, None), None, None, (0, None)),
+    );
+}
+
+/// Planning a message of so many octets gives the number and leaves no plan.
+fn leaves(g: &mut Group, octets: usize, asked: Asked, number: u32) {
+    let (given, plan) = asked.plan(&pattern(octets, SEED));
+    let untouched = filled(plan.len());
+    g.case((given, difference(&plan, &untouched)), (number, None));
+}
+
+/// A message of so many octets stays whole.
+fn unsegmented(g: &mut Group, octets: usize, asked: Asked) {
+    leaves(g, octets, asked, 1);
+}
+
+/// Planning a message of so many octets gives refusal n/m.
+fn refuses(g: &mut Group, octets: usize, asked: Asked, n: u32, m: u32) {
+    leaves(g, octets, asked, refusal(n, m));
+}
+
+fn marked(g: &mut Group) {
+    let p10 = Asked {
+        transaction: 0,
+        ..ask(6, Prohibited)
+    };
+    plans(g, 7, p10, Cut(3, 1, 3, true));
+    plans(g, 256, ask(4, Prohibited), Cut(256, 1, 1, false));
+    refuses(g, 257, ask(4, Prohibited), 22, 0);
+}
+
+/// P10: the Begin of 7 octets is 00 00 01 d 10 07, d being the first of them.
+fn every_begin(g: &mut Group) {
+    for d in 0..=255 {
+        let message = [d, 0x42, 0x43, 0x44, 0x45, 0x46, 0x47];
+        let mut output = filled(16);
+        let begin = match plan_message(&message, 6, 0, Prohibited, 1, 6) {
+            Ok(MessagePlan::Segmented(plan)) => plan.segment(0),
+            _ => None,
+        };
+        let written = begin.map(|begin| begin.encode(1, &mut output));
+        let wanted = at_front(&[0, 0, 1, d, 0x10, 7], 16);
+        g.case((written, output), (Some(Ok(6)), wanted));
+    }
+}
+
+fn unmarked(g: &mut Group) {
+    let old = Asked {
+        version: 0,
+        ..ask(0, Prohibited)
+    };
+    unsegmented(g, 3, ask(3, Prohibited));
+    refuses(g, 4, ask(3, Prohibited), 21, 0);
+    plans(g, 510, ask(5, Every4), Cut(256, 0, 2, false));
+    refuses(g, 511, ask(5, Every4), 22, 0);
+    refuses(g, 5, ask(4, Every4), 21, 0);
+    unsegmented(g, 0, old);
+}
+
+/// A budget at the ceiling and one past it, for a message that fits and one that doesn't.
+fn ceilings(g: &mut Group) {
+    let under = |ceiling, budget| Asked {
+        ceiling,
+        ..ask(budget, Prohibited)
+    };
+    unsegmented(g, 6, under(6, 6));
+    plans(g, 7, under(6, 6), Cut(3, 1, 3, true));
+    refuses(g, 6, under(5, 6), 20, 0);
+    refuses(g, 7, under(5, 6), 20, 0);
+    refuses(g, 0, under(0, 1), 20, 0);
+    unsegmented(g, 66_000, under(u64::MAX, u64::MAX));
+}
+
+/// Both are read only where the message doesn't fit.
+fn transactions_and_versions(g: &mut Group) {
+    let with = |transaction, version| Asked {
+        transaction,
+        version,
+        ..ask(6, Prohibited)
+    };
+    plans(g, 7, with(7, 1), Cut(3, 1, 3, true));
+    refuses(g, 7, with(8, 1), 6, 1);
+    unsegmented(g, 6, with(8, 1));
+    refuses(g, 7, with(5, 0), 1, 0);
+    unsegmented(g, 6, with(5, 0));
+    plans(g, 7, with(5, 255), Cut(3, 1, 3, true));
+}
+
+/// 20, Unsegmented, version, transaction, 21, 22.
+fn order(g: &mut Group) {
+    let worst = Asked {
+        budget: 4,
+        transaction: 8,
+        window: Every4,
+        version: 0,
+        ceiling: 3,
+    };
+    let within = Asked {
+        ceiling: 4,
+        ..worst
+    };
+    let current = Asked {
+        version: 1,
+        ..within
+    };
+    let narrow = Asked {
+        transaction: 7,
+        ..current
+    };
+    refuses(g, 4, worst, 20, 0);
+    unsegmented(g, 4, within);
+    refuses(g, 66_000, within, 1, 0);
+    refuses(g, 66_000, current, 6, 1);
+    refuses(g, 66_000, narrow, 21, 0);
+    refuses(g, 66_000, ask(3, Prohibited), 21, 0);
+    refuses(g, 66_000, ask(5, Every4), 22, 0);
+}
+
+/// The budget past the bare header: by 2 no length is stated, by 3 it is. Below the bare header, and for 3 octets, 21.
+fn bare_headers(g: &mut Group) {
+    refuses(g, 7, ask(0, Prohibited), 21, 0);
+    refuses(g, 7, ask(3, Prohibited), 21, 0);
+    plans(g, 7, ask(4, Prohibited), Cut(7, 1, 1, false));
+    plans(g, 7, ask(5, Prohibited), Cut(4, 2, 2, false));
+    plans(g, 7, ask(6, Prohibited), Cut(3, 1, 3, true));
+    for window in [Every4, Every8, Every16, Last, Exceptions] {
+        refuses(g, 9, ask(4, window), 21, 0);
+        plans(g, 9, ask(5, window), Cut(6, 0, 2, false));
+        plans(g, 9, ask(7, window), Cut(3, 2, 4, false));
+        plans(g, 9, ask(8, window), Cut(3, 1, 5, true));
+    }
+}
+
+/// A length is stated up to 4,095 octets.
+fn stated_lengths(g: &mut Group) {
+    plans(g, 4_095, ask(103, Prohibited), Cut(41, 98, 100, true));
+    plans(g, 4_096, ask(103, Prohibited), Cut(41, 100, 100, false));
+    plans(g, 4_095, ask(4_094, Prohibited), Cut(17, 255, 255, true));
+    plans(g, 4_096, ask(4_095, Prohibited), Cut(17, 255, 255, false));
+}
+
+fn largest(g: &mut Group) {
+    plans(g, 1_000, ask(257, Prohibited), Cut(4, 252, 254, true));
+    plans(g, 1_000, ask(258, Prohibited), Cut(4, 253, 255, true));
+    plans(g, 1_000, ask(260, Prohibited), Cut(4, 255, 255, true));
+    plans(g, 1_000, ask(261, Last), Cut(4, 254, 255, true));
+    plans(g, 1_000, ask(262, Last), Cut(4, 255, 255, true));
+    plans(g, 65_280, ask(258, Prohibited), Cut(256, 255, 255, false));
+    refuses(g, 65_281, ask(258, Prohibited), 22, 0);
+    plans(g, 65_278, ask(258, Last), Cut(256, 253, 255, false));
+}
+
+pub fn corners(tally: &mut Tally) {
+    tally.group("planning: P10 to P12", marked);
+    tally.group("planning: P10's Begin, for each first octet", every_begin);
+    tally.group("planning: the corners without a mark", unmarked);
+    tally.group("planning: ceilings", ceilings);
+    tally.group(
+        "planning: transactions and versions",
+        transactions_and_versions,
+    );
+    tally.group("planning: each test against the next", order);
+    tally.group(
+        "planning: each window, around the bare header",
+        bare_headers,
+    );
+    tally.group("planning: lengths that are stated", stated_lengths);
+    tally.group("planning: 255 octets and 256 segments", largest);
+}

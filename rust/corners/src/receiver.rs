@@ -1,0 +1,28 @@
+//! Corners of the receiver: document 01's, the order and the boundaries of its refusals, and what each call leaves, run on hand-made calls.
+
+mod bench;
+mod impossible;
+mod made;
+mod marked;
+mod record;
+mod refusals;
+mod repeats;
+mod rows;
+mod slots;
+mod timing;
+mod trains;
+mod windows;
+
+use crate::tally::Tally;
+
+pub fn corners(tally: &mut Tally) {
+    marked::corners(tally);
+    timing::corners(tally);
+    repeats::corners(tally);
+    slots::corners(tally);
+    made::corners(tally);
+    refusals::corners(tally);
+    impossible::corners(tally);
+    windows::corners(tally);
+    trains::corners(tally);
+}

@@ -1,0 +1,219 @@
+//! A receiver on the bench. Each call is made on what the call before it left, and is a case: the number that it gives, its whole answer,
+//! the whole record and every lent octet are compared with what has to come of it.
+
+use super::record::{Record, State, noted};
+use super::rows::{Call, Kind, Map, OWN, Outcome, Row, STORE, TRANSACTION, advance, cancel, later};
+use crate::octets::{FILL, PAST, at_front, difference, filled, flagged, pattern, refusal};
+use crate::tally::Group;
+use catkhize::{calls, layout};
+
+/// The octets of a slot.
+const SLOT: usize = 255;
+
+/// Where services, end and stated length stand in a record.
+const NOTED: std::ops::Range<usize> = 25..33;
+
+/// The list of what is supported: no compression, encryption, windows, no CRC.
+const SUPPORTED: [u8; 4] = [0, 1, 1, 0];
+
+/// The statuses of responses that are no failure's.
+const CONTINUING: u8 = 0;
+const INTER_SEGMENT_TIMEOUT: u8 = 1;
+const RECEIVED: u8 = 10;
+
+/// The buffers of a call. Each is longer than what the call uses or is lent.
+#[derive(Clone)]
+struct Lent {
+    answer: Vec<u8>,
+    record: Vec<u8>,
+    store: Vec<u8>,
+    output: Vec<u8>,
+}
+
+impl Lent {
+    fn new() -> Self {
+        Self {
+            answer: filled(layout::RECEPTION + PAST),
+            record: filled(layout::RECEIVER + PAST),
+            store: filled(STORE),
+            output: filled(layout::STORE + PAST),
+        }
+    }
+
+    fn differences(&self, wanted: &Self) -> [Option<String>; 4] {
+        [
+            difference(&self.answer, &wanted.answer),
+            difference(&self.record, &wanted.record),
+            difference(&self.store, &wanted.store),
+            difference(&self.output, &wanted.output),
+        ]
+    }
+
+    /// Makes a call, with so many octets of what is lent.
+    fn call(&mut self, call: &Call, data: &[u8]) -> u32 {
+        let record = &mut self.record;
+        let store = &mut self.store[..call.store];
+        let answer = &mut self.answer;
+        match call.kind {
+            Kind::Advance => calls::receiver_advance(record, store, call.reading, answer),
+            Kind::Cancel => calls::receiver_cancel(record, store, call.reading),
+            _ => calls::receiver_receive(
+                record,
+                store,
+                &mut self.output[..call.output],
+                call.from,
+                &call.segment(),
+                data,
+                call.unparsed,
+                call.reading,
+                answer,
+            ),
+        }
+    }
+}
+
+/// The receiver, the record that it has to have, and the seed of its data.
+struct Bench<'a> {
+    group: &'a mut Group,
+    seed: u8,
+    record: Record,
+    lent: Lent,
+}
+
+/// RESPONSE. Its status says how the reception stands, or that nothing came in time.
+fn response(outcome: Outcome, state: State, map: Map) -> [u8; layout::RESPONSE] {
+    let status = match (outcome, state) {
+        (Outcome::Asks, _) => INTER_SEGMENT_TIMEOUT,
+        (_, State::Complete) => RECEIVED,
+        (_, State::Failed(status)) => status,
+        _ => CONTINUING,
+    };
+    let mut octets = vec![TRANSACTION, status];
+    octets.extend(map.entries.to_be_bytes());
+    octets.extend(map.marks.iter().flat_map(|word| word.to_be_bytes()));
+    octets.extend(flagged(map.lists.then_some(SUPPORTED)));
+    octets.try_into().expect("the octets of a RESPONSE")
+}
+
+/// RECEPTION of a receive, REPLY of an advance; a cancel has no answer.
+fn answer(kind: Kind, response: Option<[u8; layout::RESPONSE]>, message: Option<u64>) -> Vec<u8> {
+    match kind {
+        Kind::Cancel => Vec::new(),
+        Kind::Advance => flagged(response),
+        _ => [flagged(response), flagged(message.map(u64::to_be_bytes))].concat(),
+    }
+}
+
+impl Bench<'_> {
+    /// The data of slot s: a pattern of its own.
+    fn data(&self, s: u8, octets: usize) -> Vec<u8> {
+        pattern(octets, self.seed.wrapping_add(s))
+    }
+
+    /// The data of all segments that are held, in order. Slots that are not held have no octets in the record.
+    fn message(&self) -> Vec<u8> {
+        (0..=255)
+            .flat_map(|s| self.data(s, self.record.lengths[usize::from(s)].into()))
+            .collect()
+    }
+
+    /// Makes a call and compares what comes of it.
+    fn call(&mut self, call: Call, outcome: Outcome, map: Option<Map>) {
+        let mut data = self.data(call.sequence, call.octets);
+        if let (true, Some(last)) = (call.altered, data.last_mut()) {
+            *last ^= 0xff;
+        }
+        self.lent.answer.fill(FILL);
+        self.record.leave(&call, outcome);
+        let mut wanted = self.lent.clone();
+        wanted.record = at_front(&self.record.octets(), wanted.record.len());
+        let message = self.change(&mut wanted, &call, &data, outcome);
+        let number = match outcome {
+            Outcome::Refused(n, m) => refusal(n.into(), m.into()),
+            Outcome::Closes | Outcome::Expires => refusal(38, 0),
+            _ => 0,
+        };
+        if number == 0 {
+            let response = map.map(|map| response(outcome, self.record.state, map));
+            let answer = answer(call.kind, response, message);
+            wanted.answer = at_front(&answer, wanted.answer.len());
+        }
+        let given = self.lent.call(&call, &data);
+        let differences = self.lent.differences(&wanted);
+        let none = <[Option<String>; 4]>::default();
+        self.group.case((given, differences), (number, none));
+        // The next call is made on what had to be left, so that a case that differs does not spoil the others.
+        self.lent = wanted;
+    }
+
+    /// What a call has to do to store and output, and how many octets it hands over.
+    fn change(&self, lent: &mut Lent, call: &Call, data: &[u8], outcome: Outcome) -> Option<u64> {
+        match outcome {
+            Outcome::Holds | Outcome::HandsOver => {
+                let at = SLOT * usize::from(call.sequence);
+                lent.store[at..at + data.len()].copy_from_slice(data);
+            }
+            Outcome::Fails(_) | Outcome::Expires | Outcome::Lapses | Outcome::Cancels => {
+                lent.store[..layout::STORE].fill(0);
+            }
+            _ => {}
+        }
+        let Outcome::HandsOver = outcome else {
+            return None;
+        };
+        let message = self.message();
+        lent.output[..message.len()].copy_from_slice(&message);
+        Some(message.len() as u64)
+    }
+
+    /// A new receiver, made at reading 0.
+    fn start(&mut self, version: u8, maximum: u64) {
+        let record = &mut self.lent.record;
+        calls::receiver_new(record, OWN, TRANSACTION, version, maximum, 0);
+        self.record = Record::new(OWN, TRANSACTION, version, maximum, 0);
+    }
+
+    fn step(&mut self, row: Row) {
+        match row {
+            Row::Start(version, maximum) => {
+                self.lent = Lent::new();
+                self.seed = 0;
+                self.start(version, maximum);
+            }
+            Row::Again(seed) => {
+                self.seed = seed;
+                self.start(1, 100);
+            }
+            Row::Make(edit) => {
+                edit(&mut self.record);
+                self.lent.record = at_front(&self.record.octets(), self.lent.record.len());
+            }
+            Row::Keeps(end, services, length) => {
+                let wanted = noted(services.unwrap_or_default(), end, length);
+                let given = self.lent.record[NOTED].to_vec();
+                self.group.case(given, wanted);
+            }
+            Row::Wrong => {
+                self.step(later(1, 1, 5_000).refused(62));
+                self.step(advance(5_000).refused(62));
+                self.step(cancel(5_000).refused(62));
+            }
+            Row::Call(call, outcome, map) => self.call(call, outcome, map),
+        }
+    }
+}
+
+/// Runs the tables, each on a store and an output of its own.
+pub fn run(group: &mut Group, tables: &[&[Row]]) {
+    for table in tables {
+        let mut bench = Bench {
+            group,
+            seed: 0,
+            record: Record::new(OWN, TRANSACTION, 1, 0, 0),
+            lent: Lent::new(),
+        };
+        for row in *table {
+            bench.step(*row);
+        }
+    }
+}

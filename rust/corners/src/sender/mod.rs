@@ -1,0 +1,36 @@
+//! The sender's corners of document 01, the boundary of each of its refusals, and records made by hand.
+
+mod bench;
+mod closing;
+mod deadline;
+mod impossible;
+mod lower_layer;
+mod making;
+mod maps;
+mod offers;
+mod order;
+mod outcome;
+mod plan;
+mod plans;
+mod record;
+mod response;
+mod statuses;
+mod submitting;
+mod tickets;
+
+use crate::tally::Tally;
+
+pub fn corners(tally: &mut Tally) {
+    making::corners(tally);
+    plans::corners(tally);
+    submitting::corners(tally);
+    lower_layer::corners(tally);
+    deadline::corners(tally);
+    offers::corners(tally);
+    statuses::corners(tally);
+    maps::corners(tally);
+    order::corners(tally);
+    closing::corners(tally);
+    tickets::corners(tally);
+    impossible::corners(tally);
+}

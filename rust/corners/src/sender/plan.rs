@@ -1,0 +1,81 @@
+//! Plans in octets (PLAN), as plan_message and the frozen check give them and with fields changed.
+
+use super::bench::{MESSAGE, TRANSACTION, VERSION};
+use super::record::Octets;
+use crate::octets::{Segment, begin, end, head, later, window};
+use catkhize::AcknowledgmentWindow::{self, Every4};
+use catkhize::{calls, layout};
+
+/// Offsets of what plan_message gives.
+pub mod planned {
+    pub const MESSAGE_OCTETS: usize = 2;
+    pub const BUDGET: usize = 10;
+    pub const TRANSACTION: usize = 18;
+    pub const WINDOW: usize = 19;
+    pub const BEGIN_OCTETS: usize = 20;
+    pub const LATER_CAPACITY: usize = 28;
+    pub const COUNT: usize = 36;
+    pub const STATES_LENGTH: usize = 44;
+}
+
+/// Offsets of what the frozen check gives, from the count on to the plan's last octet.
+pub mod frozen {
+    pub const COUNT: usize = 45;
+    pub const MESSAGE_OCTETS: usize = 53;
+    pub const BUDGET: usize = 61;
+    pub const WINDOW: usize = 69;
+    pub const HEADS: usize = 70;
+}
+
+pub type Plan = Octets<{ layout::PLAN }>;
+
+/// The plan of a message. Where there is none, the octets spell no plan, and no sender is made.
+pub fn plan_at(message: &[u8], budget: u64, window: AcknowledgmentWindow) -> Plan {
+    let mut plan = Plan::UNWRITTEN;
+    let window = window as u8;
+    let record = &mut plan.0;
+    calls::plan_message(
+        message,
+        budget,
+        TRANSACTION,
+        window,
+        VERSION,
+        budget,
+        record,
+    );
+    plan
+}
+
+/// A frozen plan of the 14 octets: data lengths 4, 6 and 4, no length stated, window Every4. The budget has room for a length or a CRC in
+/// each segment.
+pub fn frozen_plan() -> Plan {
+    const BUDGET: u64 = 16;
+    const COUNT: u64 = 3;
+    let mut heads = [
+        head(begin(TRANSACTION, None, window(Every4)), 4),
+        head(later(TRANSACTION, 1, None), 6),
+        head(end(TRANSACTION, 2, None, None), 4),
+    ]
+    .concat();
+    heads.resize(layout::HEADS, 0);
+    let mut plan = Plan::UNWRITTEN;
+    calls::try_from_frozen(
+        &heads,
+        COUNT,
+        &MESSAGE,
+        &MESSAGE,
+        BUDGET,
+        VERSION,
+        BUDGET,
+        &mut plan.0,
+    );
+    plan
+}
+
+impl Plan {
+    /// The same but for the head at an index.
+    pub fn with_head(self, index: usize, segment: Segment, data_octets: u64) -> Self {
+        let at = frozen::HEADS + layout::HEAD * index;
+        self.with(at, &head(segment, data_octets))
+    }
+}
