@@ -244,7 +244,8 @@ extern "C" {
 #define CATKHIZE_RECEIVER_EXPIRED 4u
 #define CATKHIZE_RECEIVER_CANCELED 5u
 
-/* PLAN. Planned: capacities from which every segment follows. Frozen: heads. The other's octets are 0. */
+/* PLAN. Planned: capacities from which every segment follows; the frozen part of a plan that plan_message
+ * makes is 0, and is not read. Frozen: heads; the planned part is 0. */
 #define CATKHIZE_PLAN_AT_FORM 1u
 #define CATKHIZE_PLAN_AT_MESSAGE_OCTETS 2u /* planned; 64 bits, as all below but where said */
 #define CATKHIZE_PLAN_AT_BUDGET 10u

@@ -3,7 +3,7 @@
 with --driver, by running the differential driver with it in place of the original.
 
 strength.py [--driver] [AREAS]   AREAS: some of the letters c (codec), p (planner), f (frozen check), r (receiver), s (sender); all of them if none
-is given. --driver links the static libraries of target/staticlib, or of CATKHIZE_LIB_DIR.
+is given. --driver links the library of target/staticlib, or of CATKHIZE_LIB_DIR.
 It works in a temporary folder and changes nothing here. All of it takes about an hour on two cores. (strength_port.py puts errors into the port.)"""
 import os, shutil, subprocess, sys, tempfile
 HERE=os.path.dirname(os.path.abspath(__file__))

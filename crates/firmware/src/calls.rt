@@ -185,15 +185,15 @@ pub fn rebuilt() {
     let second = [0x42u8; 255];
     let third = [0x43u8; 90];
     say(b"a message of 600 octets in three segments\n");
-    let r = made(1);
-    let r = advance(r, 900, &mut store);
-    let r = receive(r, begin(1), &first, 1_000, &mut store, &mut output);
-    let r = receive(r, end(1), &third, 2_000, &mut store, &mut output);
-    let r = receive(r, begin(1), &first, 3_000, &mut store, &mut output);
-    let r = advance(r, 302_999, &mut store);
-    let r = advance(r, 303_000, &mut store);
-    let r = receive(r, middle(1), &second, 304_000, &mut store, &mut output);
-    let r = cancel(r, 305_000, &mut store);
+    let mut r = made(1);
+    r = advance(r, 900, &mut store);
+    r = receive(r, begin(1), &first, 1_000, &mut store, &mut output);
+    r = receive(r, end(1), &third, 2_000, &mut store, &mut output);
+    r = receive(r, begin(1), &first, 3_000, &mut store, &mut output);
+    r = advance(r, 302_999, &mut store);
+    r = advance(r, 303_000, &mut store);
+    r = receive(r, middle(1), &second, 304_000, &mut store, &mut output);
+    r = cancel(r, 305_000, &mut store);
     handed_over(&output, &first, &second, &third);
     past_slots(&store);
 }
@@ -206,13 +206,13 @@ pub fn broken_off() {
     let second = [0x45u8; 255];
     let wiped = [0u8; 65_280];
     say(b"a reception that is canceled\n");
-    let r = made(2);
-    let r = receive(r, middle(2), &second, 500, &mut store, &mut output);
-    let r = receive(r, begin(2), &first, 1_000, &mut store, &mut output);
-    let r = cancel(r, 999, &mut store);
-    let r = cancel(r, 2_000, &mut store);
-    let r = receive(r, middle(2), &second, 3_000, &mut store, &mut output);
-    let r = advance(r, 4_000, &mut store);
+    let mut r = made(2);
+    r = receive(r, middle(2), &second, 500, &mut store, &mut output);
+    r = receive(r, begin(2), &first, 1_000, &mut store, &mut output);
+    r = cancel(r, 999, &mut store);
+    r = cancel(r, 2_000, &mut store);
+    r = receive(r, middle(2), &second, 3_000, &mut store, &mut output);
+    r = advance(r, 4_000, &mut store);
     says::holds(b"  slots of the store all 0", stands(&store, 0, &wiped));
     past_slots(&store);
 }

@@ -1,6 +1,6 @@
 // Reading a list case by case: op, n, input, m, expected answer.
-use recorded::number::be8;
-use recorded::number::be16;
+use crate::number::be8;
+use crate::number::be16;
 
 const LENGTH_OCTETS: usize = 2;
 

@@ -1,28 +1,32 @@
 // The run through one list.
+use crate::case::ANSWER_OCTETS;
+use crate::case::LONG;
+use crate::case::PLAN_OCTETS;
+use crate::case::RECORD_OCTETS;
+use crate::case::call;
+use crate::case::is_same;
+use crate::case::opens;
+use crate::input::is_input;
 use crate::list::MAX_ANSWER;
 use crate::list::MAX_INPUT;
 use crate::list::Next;
 use crate::list::next_case;
-use recorded::Outcome;
-use recorded::codec::codec_case;
-use recorded::frozen::FROZEN;
-use recorded::frozen::frozen_case;
-use recorded::number::front;
-use recorded::plan::MAX_MESSAGE;
-use recorded::plan::PLAN;
-use recorded::plan::plan_case;
+use crate::number::front;
+use tally::Outcome;
 use tally::Tally;
 use tally::say;
+use tally::say_number;
 use tally::say_octet;
 
-// How far a list has been replayed, and whether it goes on.
+// How far a list has been replayed, how many lists of calls it has opened, and whether it goes on.
 struct Run {
     tally: Tally,
+    calls: u64,
     going: bool,
 }
 
 // Counts a case, and prints its number and its op where it is among the first that are not the same.
-pub fn counted(tally: Tally, op: u8, outcome: Outcome) -> Tally {
+fn counted(tally: Tally, op: u8, outcome: Outcome) -> Tally {
     let next = tally.count(outcome);
     if next.shows(outcome) {
         next.say_case(outcome);
@@ -33,21 +37,43 @@ pub fn counted(tally: Tally, op: u8, outcome: Outcome) -> Tally {
     next
 }
 
-// The outcome of a case of any list.
-fn outcome_of(op: u8, input: &[u8], expected: &[u8]) -> Outcome {
-    let mut answer = [0u8; MAX_ANSWER];
-    if op < PLAN {
-        return codec_case(op, input, expected, &mut answer);
+// One more list of calls where the op opens one, as far as numbers go.
+fn calls_with(op: u8, n: u64) -> u64 {
+    if !opens(op) {
+        return n;
     }
-    let mut message = [0u8; MAX_MESSAGE];
-    if op == PLAN {
-        return plan_case(input, expected, &mut message, &mut answer);
+    if n < u64::MAX { n + 1 } else { n }
+}
+
+fn outcome(
+    op: u8,
+    input: &[u8],
+    expected: &[u8],
+    record: &mut [u8; RECORD_OCTETS],
+    plan: &mut [u8; PLAN_OCTETS],
+    store: &mut [u8; LONG],
+    output: &mut [u8; LONG],
+) -> Outcome {
+    if !is_input(op, input, record) {
+        return Outcome::Malformed;
     }
-    let mut joined = [0u8; MAX_MESSAGE];
-    if op == FROZEN {
-        return frozen_case(input, expected, &mut joined, &mut message, &mut answer);
+    let mut answer = [0u8; ANSWER_OCTETS];
+    let code = call(op, input, record, plan, store, output, &mut answer);
+    if is_same(
+        op,
+        code,
+        input,
+        record,
+        plan,
+        store,
+        output,
+        &answer,
+        expected,
+    ) {
+        Outcome::Same
+    } else {
+        Outcome::Differs
     }
-    Outcome::Malformed
 }
 
 impl Run {
@@ -58,17 +84,24 @@ impl Run {
         }
     }
 
-    fn replayed(self, op: u8, input: &[u8], expected: &[u8]) -> Run {
-        let outcome = outcome_of(op, input, expected);
+    fn with(self, op: u8, outcome: Outcome) -> Run {
         let tally = self.tally;
         Run {
             tally: counted(tally, op, outcome),
-            ..self
+            calls: calls_with(op, self.calls),
+            going: self.going,
         }
     }
 
     // Replays the next case.
-    fn next(self, fd: i32) -> Run {
+    fn next(
+        self,
+        fd: i32,
+        record: &mut [u8; RECORD_OCTETS],
+        plan: &mut [u8; PLAN_OCTETS],
+        store: &mut [u8; LONG],
+        output: &mut [u8; LONG],
+    ) -> Run {
         let mut input = [0u8; MAX_INPUT];
         let mut expected = [0u8; MAX_ANSWER];
         match next_case(fd, &mut input, &mut expected) {
@@ -81,23 +114,52 @@ impl Run {
                 op,
                 input: n,
                 expected: m,
-            } => self.replayed(op, front(&input, n), front(&expected, m)),
+            } => {
+                let seen = outcome(
+                    op,
+                    front(&input, n),
+                    front(&expected, m),
+                    record,
+                    plan,
+                    store,
+                    output,
+                );
+                self.with(op, seen)
+            }
         }
+    }
+
+    // The line of a list, with the number of its lists of calls where it has any.
+    fn report(self, name: &[u8]) {
+        let tally = self.tally;
+        if self.calls == 0 {
+            tally.report(name);
+            return;
+        }
+        say(name);
+        say(b", ");
+        say_number(self.calls);
+        tally.report(b" lists of calls");
     }
 }
 
 // A list ends, but nothing says so: the turns are counted down from a number that no list uses up.
-fn all(fd: i32) -> Tally {
+fn all(fd: i32) -> Run {
+    let mut record = [0u8; RECORD_OCTETS];
+    let mut plan = [0u8; PLAN_OCTETS];
+    let mut store = [0u8; LONG];
+    let mut output = [0u8; LONG];
     let mut run = Run {
         tally: Tally::none(),
+        calls: 0,
         going: true,
     };
     let mut turns = u64::MAX;
     while turns > 0 && run.going {
         turns -= 1;
-        run = run.next(fd);
+        run = run.next(fd, &mut record, &mut plan, &mut store, &mut output);
     }
-    run.tally
+    run
 }
 
 // Replays the list of a name that stands at a path.
@@ -107,7 +169,7 @@ pub fn replay(name: &[u8], path: &[u8]) {
         os::fail(path);
         return;
     }
-    let tally = all(fd);
+    let run = all(fd);
     libc::close(fd);
-    tally.report(name);
+    run.report(name);
 }

@@ -1,11 +1,15 @@
 // Counting cases, and printing what was counted. No contract can say what is printed; each call is safe and ends.
 use libc::STDOUT_FILENO;
-use recorded::Outcome;
-
-pub mod counting;
 
 // Of so many cases that differ the number is printed, and of so many that are malformed; the rest are only counted.
 const MAX_SHOWN: u64 = 5;
+
+// What a case shows: our answer is the recorded one, or another; or the case is none that its list may hold.
+pub enum Outcome {
+    Same,
+    Differs,
+    Malformed,
+}
 
 pub struct Tally {
     pub cases: u64,
