@@ -1,17 +1,35 @@
 // Rebuilds the record of a capture (docs/CAPTURE.md): reads it from standard input, or from the files that are named, feeds the receiver,
 // and prints a line for each event, then the record, or what is missing.
-mod counts;
 mod input;
-mod print;
 mod run;
 mod session;
 
-use print::say;
+use capture::text::front;
+use report::say;
 
 // The longest path.
 const PATH: usize = 4096;
 
 const STDIN: i32 = 0;
+
+// The capture at a path.
+fn at_path(path: &[u8]) {
+    let fd = os::open_read(path);
+    if fd < 0 {
+        os::fail(path);
+        say::say(say::NOT_OPENED, 0, 0);
+        say::end_line();
+        return;
+    }
+    run::capture(fd);
+    libc::close(fd);
+}
+
+fn say_heading(path: &[u8]) {
+    say::say(say::HEADING, 0, 0);
+    say::print(path);
+    say::end_line();
+}
 
 // The capture that argument i names.
 fn named(i: usize, several: bool) {
@@ -19,22 +37,14 @@ fn named(i: usize, several: bool) {
     let n = os::arg(i, &mut path);
     if os::errno() != 0 {
         os::fail(b"argument");
-        say(b"end: the argument is no path; no record\n");
+        say::say(say::NO_PATH, 0, 0);
+        say::end_line();
         return;
     }
     if several {
-        say(b"== ");
-        say(capture::text::front(&path, n));
-        say(b"\n");
+        say_heading(front(&path, n));
     }
-    let fd = os::open_read(capture::text::front(&path, n));
-    if fd < 0 {
-        os::fail(capture::text::front(&path, n));
-        say(b"end: the capture cannot be opened; no record\n");
-        return;
-    }
-    run::capture(fd);
-    libc::close(fd);
+    at_path(front(&path, n));
 }
 
 fn main() {

@@ -1,186 +1,165 @@
-// Segments, responses, and what is missing.
-use crate::names::put_kind;
-use crate::names::put_status;
-use crate::place::Place;
-use receiver::Deadline;
-use receiver::EndSequence;
-use receiver::Message;
-use receiver::Reply;
-use response::AcknowledgmentMap;
-use response::OptionalServicesSupport;
-use response::Response;
-use response::SupportList;
-use tsar::Segment;
-use words::Found;
-use words::Words;
+// What a call gave and answered, and how a receiver stands.
+use crate::layout;
+use crate::layout::number_at;
+use crate::layout::octet;
+use crate::marks::say_marks;
+use crate::marks::say_missing;
+use crate::marks::say_open;
+use crate::say;
+use capture::text::from;
 
-const SEQUENCES: u16 = 256;
+// The first refusal of the receiver, and the first of those that document 01 added; and how many names stand before theirs.
+const RECEIVER_REFUSALS: u8 = 30;
 
-const MAX_RANGES: u16 = 128;
+const ADDED_REFUSALS: u8 = 60;
 
-// A segment: its kind, its sequence number and the number of its data octets.
-pub fn put_segment(place: Place, out: &mut [u8], segment: Segment, n: usize) -> Place {
-    let kind = segment.kind;
-    put_kind(place, out, kind)
-        .text(out, b" ")
-        .number(out, segment.sequence_number as u64)
-        .text(out, b", ")
-        .octets(out, n)
+const BEFORE_RECEIVER: usize = 8;
+
+const BEFORE_ADDED: usize = 17;
+
+// The state that has a status.
+const FAILED: u8 = 3;
+
+// The form that names a refusal: those of 1 to 8, 30 to 38 and 60 to 62 follow each other.
+fn refusal_name(n: u8) -> usize {
+    if n == 0 {
+        return say::NOTHING;
+    }
+    if n < RECEIVER_REFUSALS {
+        return say::REFUSALS + (n - 1) as usize;
+    }
+    if n < ADDED_REFUSALS {
+        return say::REFUSALS + BEFORE_RECEIVER + (n - RECEIVER_REFUSALS) as usize;
+    }
+    say::REFUSALS + BEFORE_ADDED + (n - ADDED_REFUSALS) as usize
 }
 
-// The mark before a, which is 0 before the first.
-fn before(a: u8) -> u8 {
-    if a == 0 { 0 } else { a - 1 }
+// Document 01's n/m, of which m is 0 where there is none, and the name.
+fn say_refusal(n: u8, m: u8) {
+    if m == 0 {
+        say::say(say::REFUSED, n as u64, 0);
+        say::say(refusal_name(n), 0, 0);
+        return;
+    }
+    say::say(say::REFUSED + 1, n as u64, m as u64);
+    say::say(say::FIELDS + (m - 1) as usize, 0, 0);
 }
 
-// The last mark of the run that starts at a.
-fn run_end(marks: Words, a: u8) -> u8 {
-    let clear = Words::below(SEQUENCES).minus(marks);
-    match clear.minus(Words::below(a as u16)).lowest() {
-        Found::Nothing => 255,
-        Found::At(b) => before(b),
+// A refusal by the number that a call gave.
+pub fn say_refused(code: u32) {
+    say_refusal((code / 256 % 256) as u8, (code % 256) as u8);
+}
+
+// A status by its number and its name.
+fn say_status(n: u8) {
+    say::say(say::STATUS, n as u64, 0);
+    say::say(say::STATUSES + n as usize, 0, 0);
+}
+
+fn say_flag(flag: u8, n: usize) {
+    if flag != 0 {
+        say::say(n, 0, 0);
     }
 }
 
-fn put_range(place: Place, out: &mut [u8], a: u8, b: u8) -> Place {
-    let place = place.text(out, b" ").number(out, a as u64);
-    if a == b {
-        return place;
+// The list of what is supported: a flag, and one for each service.
+fn say_support(list: &[u8]) {
+    if octet(list, 0) == 0 {
+        return;
     }
-    place.text(out, b"-").number(out, b as u64)
+    say::say(say::SUPPORTED, 0, 0);
+    say_flag(octet(list, 1), say::SUPPORTED + 1);
+    say_flag(octet(list, 2), say::SUPPORTED + 2);
+    say_flag(octet(list, 3), say::SUPPORTED + 3);
+    say_flag(octet(list, 4), say::SUPPORTED + 4);
 }
 
-struct Ranges {
-    place: Place,
-    marks: Words,
-}
-
-// Writes the lowest run of marks, and takes it away.
-fn next_range(place: Place, marks: Words, out: &mut [u8]) -> Ranges {
-    match marks.lowest() {
-        Found::Nothing => Ranges { place, marks },
-        Found::At(a) => {
-            let b = run_end(marks, a);
-            let place = put_range(place, out, a, b);
-            let marks = marks.minus(Words::below(b as u16 + 1));
-            Ranges { place, marks }
-        }
-    }
-}
-
-// The marks as numbers and ranges of numbers; none where there is no mark.
-pub fn put_marks(place: Place, out: &mut [u8], marks: Words) -> Place {
-    if marks.is_none() {
-        return place.text(out, b" none");
-    }
-    let mut ranges = Ranges { place, marks };
-    let mut i: u16 = 0;
-    while i < MAX_RANGES {
-        let place = ranges.place;
-        let marks = ranges.marks;
-        ranges = next_range(place, marks, out);
-        i += 1;
-    }
-    let place = ranges.place;
-    place
-}
-
-fn put_flag(place: Place, out: &mut [u8], set: bool, name: &[u8]) -> Place {
-    if set {
-        return place.text(out, b" ").text(out, name);
-    }
-    place
-}
-
-fn put_support(place: Place, out: &mut [u8], list: OptionalServicesSupport) -> Place {
-    let place = put_flag(
-        place.text(out, b", supported"),
-        out,
-        list.compression,
-        b"compression",
-    );
-    let place = put_flag(place, out, list.encryption, b"encryption");
-    let place = put_flag(place, out, list.acknowledgment_window, b"window");
-    put_flag(place, out, list.crc, b"CRC")
-}
-
-fn put_support_list(place: Place, out: &mut [u8], list: SupportList) -> Place {
-    match list {
-        SupportList::Absent => place,
-        SupportList::Listed(list) => put_support(place, out, list),
-    }
+fn entries(answer: &[u8]) -> usize {
+    256 * octet(answer, layout::ENTRIES) as usize + octet(answer, layout::ENTRIES + 1) as usize
 }
 
 // A map: how many entries it has, and which are missing.
-fn put_map(place: Place, out: &mut [u8], map: AcknowledgmentMap) -> Place {
-    let received = map.received;
-    let missing = Words::below(map.bit_count).minus(received);
-    let place = place
-        .text(out, b", map of ")
-        .number(out, map.bit_count as u64)
-        .text(out, b", missing");
-    put_marks(place, out, missing)
-}
-
-fn put_response(place: Place, out: &mut [u8], response: Response) -> Place {
-    let status = response.status;
-    let map = response.acknowledgments;
-    let list = response.optional_services_support;
-    let place = place
-        .text(out, b"; response: transaction ")
-        .number(out, response.transaction_id as u64)
-        .text(out, b", status ");
-    let place = put_status(place, out, status);
-    let place = put_map(place, out, map);
-    put_support_list(place, out, list)
+fn say_map(answer: &[u8]) {
+    let n = entries(answer);
+    say::say(say::MAP, n as u64, 0);
+    say_missing(from(answer, layout::MARKS), n);
 }
 
 // A response that a call asks for.
-pub fn put_reply(place: Place, out: &mut [u8], reply: Reply) -> Place {
-    match reply {
-        Reply::Nothing => place,
-        Reply::Response(response) => put_response(place, out, response),
+fn say_reply(answer: &[u8]) {
+    if octet(answer, 0) == 0 {
+        return;
     }
+    say::say(say::RESPONSE, octet(answer, layout::TRANSACTION) as u64, 0);
+    say_status(octet(answer, layout::STATUS));
+    say_map(answer);
+    say_support(from(answer, layout::SUPPORT));
 }
 
 // A message that a call hands over.
-pub fn put_message(place: Place, out: &mut [u8], message: Message) -> Place {
-    match message {
-        Message::Nothing => place,
-        Message::Octets(n) => place
-            .text(out, b"; record of octets ")
-            .number(out, n as u64),
+fn say_message(answer: &[u8]) {
+    if octet(answer, layout::MESSAGE) != 0 {
+        say::say(say::HANDED_OVER, number_at(answer, layout::MESSAGE + 1), 0);
     }
 }
 
-pub fn put_deadline(place: Place, out: &mut [u8], deadline: Deadline) -> Place {
-    match deadline {
-        Deadline::Off => place.text(out, b"none"),
-        Deadline::At(ms) => place.number(out, ms),
+// What a call gave, and its answer.
+pub fn say_answer(code: u32, answer: &[u8]) {
+    if code != 0 {
+        say_refused(code);
+        return;
+    }
+    say::say(say::TAKEN, 0, 0);
+    say_reply(answer);
+    say_message(answer);
+}
+
+// A receiver's state, with its status.
+fn say_state(receiver: &[u8]) {
+    let state = octet(receiver, layout::STATE);
+    say::say(say::STATES + state as usize, 0, 0);
+    if state == FAILED {
+        say_status(octet(receiver, layout::STATE + 1));
     }
 }
 
-// What is missing of a train of which these segments are held.
-pub fn put_missing(place: Place, out: &mut [u8], held: Words, end: EndSequence) -> Place {
-    match end {
-        EndSequence::At(e) => {
-            let missing = Words::below(e as u16 + 1).minus(held);
-            put_marks(place, out, missing)
-        }
-        EndSequence::Unknown => put_up_to_highest(place, out, held),
+// The state, where it is another than before.
+pub fn say_change(before: u8, receiver: &[u8]) {
+    if octet(receiver, layout::STATE) != before {
+        say::say(say::NOW, 0, 0);
+        say_state(receiver);
     }
 }
 
-// No End has come: what is missing up to the highest segment that is held, and what may follow it.
-fn put_up_to_highest(place: Place, out: &mut [u8], held: Words) -> Place {
-    match held.highest() {
-        Found::Nothing => place.text(out, b" all"),
-        Found::At(h) => {
-            let missing = Words::below(h as u16).minus(held);
-            put_marks(place, out, missing)
-                .text(out, b", and what follows ")
-                .number(out, h as u64)
-                .text(out, b" (no End)")
-        }
+fn say_deadline(receiver: &[u8]) {
+    if octet(receiver, layout::DEADLINE) == 0 {
+        say::say(say::DEADLINES, 0, 0);
+        return;
     }
+    say::say(
+        say::DEADLINES + 1,
+        number_at(receiver, layout::DEADLINE + 1),
+        0,
+    );
+}
+
+// What a receiver that held these segments lacks.
+fn say_lack(receiver: &[u8], held: &[u8]) {
+    if octet(receiver, layout::END) == 0 {
+        say_open(held);
+        return;
+    }
+    say_missing(held, octet(receiver, layout::END + 1) as usize + 1);
+}
+
+// Where a receiver stands that handed nothing over: its state, its deadline, the segments that it last held, and those that are missing.
+pub fn say_standing(receiver: &[u8], held: &[u8]) {
+    say::say(say::STANDING, 0, 0);
+    say_state(receiver);
+    say_deadline(receiver);
+    say::say(say::LAST_HELD, 0, 0);
+    say_marks(held);
+    say::say(say::MISSING, 0, 0);
+    say_lack(receiver, held);
+    say::end_line();
 }

@@ -1,6 +1,5 @@
 -- `bench::main` is safe and ends. The measure is the number of arguments that are left. Assumes nothing.
 use Prim.Native.Nat.{_-_}
-use native.Mathlib.Omega.{arith}
 use borrow.Author.Needs.{needs}
 use Rattle.bench.proofs.main.Statement.{statement}
 use Rattle.bench.proofs.main.Tie as tie
@@ -12,31 +11,31 @@ abbrev μ-loop : tie.MeasureT-loop
 μ-loop count i₀ i = count - i
 
 arg-count-requires : tie.Need-arg-count-requires Inv-loop μ-loop
-arg-count-requires c κs = tt
+arg-count-requires c κs = search needs
 
 capture-requires : tie.Need-capture-requires Inv-loop μ-loop
-capture-requires c κs = tt
+capture-requires c κs = search needs
 
 returns : tie.Need-returns Inv-loop μ-loop
-returns c = tt
+returns c = search needs
 
 loop-holds : tie.Need-loop-holds Inv-loop μ-loop
 loop-holds c = tt
 
 named-requires : tie.Need-named-requires Inv-loop μ-loop
-named-requires c κs = tt
+named-requires c κs = search needs
 
 add-i : tie.Need-add-i Inv-loop μ-loop
 add-i c = search needs
 
 loop-less : tie.Need-loop-less Inv-loop μ-loop
-loop-less c = omega arith
+loop-less c = search needs
 
 loop-again : tie.Need-loop-again Inv-loop μ-loop
 loop-again c = tt
 
 returns-2 : tie.Need-returns-2 Inv-loop μ-loop
-returns-2 c = tt
+returns-2 c = search needs
 
 pub main-spec : {M : Type 1} → statement M
 main-spec =
