@@ -12,6 +12,8 @@ REPOSITORY = os.path.dirname(HERE)
 SECONDS = 300
 # Where one round of the driver finds nothing, it runs as many as make a million calls of the machines.
 MORE_ROUNDS = 9
+# The crates that export an entry.
+EXPORTS = ['catkhize', 'train_c']
 
 ERRORS = []
 
@@ -411,18 +413,21 @@ def reached(name, uses):
 def compile_exports(crates, folder):
     """The exports of a copy of crates/ as a shared library, so that the driver needs no new link. Gives what the compiler says against it."""
     home, own = kit()
-    archive = os.path.join(os.path.dirname(folder), 'libcatkhize.a')  # not beside the shared library: the driver would be linked with it
-    if os.path.exists(archive):
-        os.remove(archive)
-    words = [os.path.join(own, 'bin/rattle-cases'), '--toolchain', os.path.join(own, 'toolchain'), '--staticlib', archive,
-             f'{crates}/catkhize/src/lib.rt', '--crate-name', 'catkhize', '--lib', f'std={home}/libs/std/src/lib.rt']
-    for below in reached('catkhize', dependencies()):
-        words += ['--lib', f'{below}={crates}/{below}/src/lib.rt']
-    made = subprocess.run(words, capture_output=True, text=True)
-    if made.returncode or not os.path.exists(archive):
-        return made.stderr or made.stdout
+    archives = []
+    for name in EXPORTS:
+        archive = os.path.join(os.path.dirname(folder), f'lib{name}.a')  # not beside the shared library: the driver would be linked with it
+        if os.path.exists(archive):
+            os.remove(archive)
+        words = [os.path.join(own, 'bin/rattle-cases'), '--toolchain', os.path.join(own, 'toolchain'), '--staticlib', archive,
+                 f'{crates}/{name}/src/lib.rt', '--crate-name', name, '--lib', f'std={home}/libs/std/src/lib.rt']
+        for below in reached(name, dependencies()):
+            words += ['--lib', f'{below}={crates}/{below}/src/lib.rt']
+        made = subprocess.run(words, capture_output=True, text=True)
+        if made.returncode or not os.path.exists(archive):
+            return made.stderr or made.stdout
+        archives.append(archive)
     library = os.path.join(folder, 'libcatkhize.so')
-    made = subprocess.run(['gcc', '-shared', '-o', library, '-Wl,--whole-archive', archive, '-Wl,--no-whole-archive'],
+    made = subprocess.run(['gcc', '-shared', '-o', library, '-Wl,--whole-archive', *archives, '-Wl,--no-whole-archive'],
                           capture_output=True, text=True)
     return made.stderr if made.returncode else None
 

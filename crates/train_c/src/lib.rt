@@ -160,7 +160,8 @@ fn put_train(answer: &mut [u8], received: u64, reception: Reception)
 // The segments stand one after another in octets, and each two octets of lengths are the number of octets of one; an odd last octet of
 // lengths is ignored. Each is decoded under the record's version and received, up to the first that is refused, which the call gives.
 // The record then spells what the last call left, and the answer is TRAIN.
-pub fn catkhize_receiver_train(
+#[no_mangle]
+pub extern "C" fn catkhize_receiver_train(
     record: &mut [u8],
     store: &mut [u8],
     output: &mut [u8],
