@@ -18,6 +18,7 @@ use report::layout::number_at;
 use report::marks::MARKS_OCTETS;
 use report::marks::top;
 use report::say;
+use tsar::HEADER_OCTETS;
 
 // Where the marks that were last held stand, and what was handed over; and where the memory ends.
 pub const LAST_HELD: usize = layout::RECEIVER_OCTETS;
@@ -48,9 +49,6 @@ pub const LINE_REFUSED: u8 = 2;
 pub const CALL_TAKEN: u8 = 3;
 
 pub const CALL_REFUSED: u8 = 4;
-
-// Where the data of a segment start.
-const HEADER_OCTETS: usize = 3;
 
 fn fate(code: u32) -> u8 {
     if code == 0 { CALL_TAKEN } else { CALL_REFUSED }

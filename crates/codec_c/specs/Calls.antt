@@ -6,8 +6,7 @@ use lib.Dec.{ltb}
 use lib.ListN.{length}
 use lib.Seq.{sets}
 use Rattle.tsar.specs.Rows.{Refusal, refusal}
-use Rattle.tsar.specs.Layout.{WholeSegment}
-use Rattle.tsar.specs.Reading.{Decoded, decoded, refused, segmentOf as decodeOf}
+use Rattle.tsar.specs.Reading.{Told, told, untold, toldOf, segmentOf as decodeOf}
 use Rattle.tsar.specs.Writing.{Written, Answer, wrote, refused as unwritten, encodeOf}
 use Rattle.tsar.specs.declared.SegmentHead.{SegmentHead}
 use Rattle.image.specs.Numbers.{spell}
@@ -55,21 +54,13 @@ pub record DecodeCall : Type 0 where
 abbrev pub decodeCall : ℕ → List ℕ → DecodeCall
 decodeCall n answer = record { code = n; answer = answer }
 
--- the head of a segment with its data
-abbrev pub headOfWhole : WholeSegment → SegmentHead
-headOfWhole s =
-    record {
-      segment = record { «transaction_id» = s .«transaction_id»; «sequence_number» = s .«sequence_number»; kind = s .kind };
-      «segment_data_length» = length (s .«segment_data»);
-    }
-
 -- a head, and a number of 8 octets behind it: DECODED, where it is the number of unparsed octets, and PART, where it is an offset
 unfoldable pub partImage : SegmentHead → ℕ → List ℕ
 partImage h n = headImage h ++ spell 8 n
 
-abbrev pub decodeGives : Decoded → List ℕ → DecodeCall
-decodeGives (decoded s n) answer = decodeCall 0 (sets answer 0 (partImage (headOfWhole s) n))
-decodeGives (refused r) answer = decodeCall (codeOf r) answer
+abbrev pub decodeGives : Told → List ℕ → DecodeCall
+decodeGives (told h n) answer = decodeCall 0 (sets answer 0 (partImage h n))
+decodeGives (untold r) answer = decodeCall (codeOf r) answer
 
 -- an answer is 31 octets
 abbrev pub decodeTests : List ℕ → List (Bool × Refusal)
@@ -77,4 +68,4 @@ decodeTests answer = (ltb (length answer) 31, short) ∷ []
 
 unfoldable pub decodeCallOf : List ℕ → ℕ → List ℕ → DecodeCall
 decodeCallOf octets version answer =
-    unlessRefused (refusal (decodeTests answer)) (λ n. decodeCall n answer) (decodeGives (decodeOf version octets) answer)
+    unlessRefused (refusal (decodeTests answer)) (λ n. decodeCall n answer) (decodeGives (toldOf (decodeOf version octets)) answer)

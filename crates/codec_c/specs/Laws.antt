@@ -2,18 +2,15 @@
 use mathlib.Core.Path.{_≡_, sym, ap, _∙_}
 use mathlib.Core.List.{List, _++_, append-nil}
 use mathlib.Core.Option.{Option, none, some}
-use Prim.Native.Nat.{ℕ, _+_, _-_, min}
+use Prim.Native.Nat.{ℕ, _+_}
 use native.Mathlib.Omega.{arith}
-use lib.ListN.{length, take, drop, drop-of-length-le, length-append, length-take, length-drop}
+use lib.ListN.{length, drop-of-length-le, length-append}
 use lib.Seq.{sets, sets-eq}
 use Rattle.tsar.specs.Rows.{Refusal, refusal}
-use Rattle.tsar.specs.Layout.{whole}
-use Rattle.tsar.specs.Reading.{Decoded, decodedBy, segmentOf as decodeOf}
+use Rattle.tsar.specs.Reading.{Told, toldOf, segmentOf as decodeOf}
 use Rattle.tsar.specs.Writing.{encodeOf}
 use Rattle.tsar.specs.declared.Segment.{Segment}
 use Rattle.tsar.specs.declared.SegmentHead.{SegmentHead}
-use Rattle.tsar.specs.declared.DecodedSegment.{DecodedSegment}
-use Rattle.tsar.specs.declared.decode.DecodeAnswer.the-variants as answered
 use Rattle.image.specs.Spelling.{sets-then}
 use Rattle.image.specs.Numbers.{spell, length-spell}
 use Rattle.image.specs.Segments.{segmentOf, headImage, HeadFits, head-layout}
@@ -60,21 +57,10 @@ module _ (segment octets : List ℕ) (version : ℕ) (output answer : List ℕ) 
 module _ (octets : List ℕ) (version : ℕ) (answer : List ℕ) where
   pub decode-refused : (r : Refusal) → refusal (decodeTests answer) ≡ some r → decodeCall (codeOf r) answer ≡ decodeCallOf octets version answer
   unfolding decodeCallOf
-  decode-refused r e = ap (λ (o : Option Refusal). unlessRefused o (λ n. decodeCall n answer) (decodeGives (decodeOf version octets) answer)) (sym e)
+  decode-refused r e = ap (λ (o : Option Refusal). unlessRefused o (λ n. decodeCall n answer) (decodeGives (toldOf (decodeOf version octets)) answer)) (sym e)
 
-  pub decode-passed : (d : Decoded) → refusal (decodeTests answer) ≡ none → d ≡ decodeOf version octets → decodeGives d answer ≡ decodeCallOf octets version answer
+  pub decode-passed : (d : Told) → refusal (decodeTests answer) ≡ none → d ≡ toldOf (decodeOf version octets) → decodeGives d answer ≡ decodeCallOf octets version answer
   unfolding decodeCallOf
   decode-passed d e q =
-      ap (λ (x : Decoded). decodeGives x answer) q
-      ∙ ap (λ (o : Option Refusal). unlessRefused o (λ n. decodeCall n answer) (decodeGives (decodeOf version octets) answer)) (sym e)
-
--- what reading gives, as a call: the data are those of the octets behind the third, as far as they go
-pub decode-gives : (octets answer : List ℕ) (d : DecodedSegment) (n : ℕ) → n ≡ min (d .head .«segment_data_length») (length octets - 3)
-    → decodeCall 0 (sets answer 0 (partImage (record { segment = d .head .segment; «segment_data_length» = n }) (d .«unparsed_octets»)))
-    ≡ decodeGives (decodedBy octets (answered.Decoded d)) answer
-decode-gives octets answer d n e =
-    let k : length (take (d .head .«segment_data_length») (drop 3 octets)) ≡ n = length-take (d .head .«segment_data_length») (drop 3 octets) ∙ omega (arith, length-drop 3 octets) in
-    ap
-    (λ (m : ℕ).
-    decodeCall 0 (sets answer 0 (partImage (record { segment = d .head .segment; «segment_data_length» = m }) (d .«unparsed_octets»))))
-    (sym k)
+      ap (λ (x : Told). decodeGives x answer) q
+      ∙ ap (λ (o : Option Refusal). unlessRefused o (λ n. decodeCall n answer) (decodeGives (toldOf (decodeOf version octets)) answer)) (sym e)

@@ -15,7 +15,6 @@ use tsar::decode::DecodeAnswer;
 use tsar::decode::decode_segment;
 use tsar::encode::EncodeAnswer;
 ghost use mathlib.Core.Path.{_≡_};
-ghost use Prim.Native.Nat.{min, _-_};
 ghost use lib.Seq.{sets};
 ghost use Rattle.tsar.specs.Writing.{encodeOf};
 ghost use Rattle.codec_c.specs.Calls.{encodeCall, encodedCall, encodeCallOf, decodeCall, decodeCallOf, partImage};
@@ -26,9 +25,6 @@ const WRITTEN_OCTETS: usize = 8;
 
 // DECODED, and PART.
 pub const PART_OCTETS: usize = 31;
-
-// The octets of a segment before its data.
-const HEADER_OCTETS: usize = 3;
 
 // Encodes a segment, and says how many octets were written.
 fn encode_into(
@@ -74,20 +70,6 @@ pub fn catkhize_encode(
     encode_into(s, data, version, output, answer)
 }
 
-// How many data octets of a segment lie within so many octets.
-fn data_octets(octets: usize, length: usize) -> usize
-    ensures { λ r. ⌜ r ≡ min «length» (octets - 3) ⌝ }
-{
-    if octets < HEADER_OCTETS {
-        return 0;
-    }
-    if length <= octets - HEADER_OCTETS {
-        length
-    } else {
-        octets - HEADER_OCTETS
-    }
-}
-
 // A head and a number behind it, put at the front of octets, as far as they go.
 pub fn put_part(answer: &mut [u8], head: SegmentHead, number: usize)
     ensures { λ _. ⌜ now (answer .exit) ≡ sets (now (answer .entry)) 0 (partImage head number) ⌝ }
@@ -109,13 +91,7 @@ pub fn catkhize_decode(octets: &[u8], version: u8, answer: &mut [u8]) -> u32
         DecodeAnswer::Refused(e) => error_code(e),
         DecodeAnswer::Decoded(d) => {
             let head = d.head;
-            let segment = head.segment;
-            let n = data_octets(octets.len(), head.segment_data_length);
-            let read = SegmentHead {
-                segment,
-                segment_data_length: n,
-            };
-            put_part(answer, read, d.unparsed_octets);
+            put_part(answer, head, d.unparsed_octets);
             DONE
         }
     }

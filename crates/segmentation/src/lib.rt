@@ -6,8 +6,6 @@ use tsar::SegmentHead;
 pub mod frozen;
 pub mod plan;
 
-const HEADER_OCTETS: usize = 3;
-
 const OPTIONAL_WORD_OCTETS: usize = 2;
 
 const FIRST_SEQUENCE_NUMBER: u8 = 0;

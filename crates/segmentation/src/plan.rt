@@ -1,6 +1,5 @@
 // Planning: plan_message, and the segments of a plan.
 use crate::FIRST_SEQUENCE_NUMBER;
-use crate::HEADER_OCTETS;
 use crate::MAX_LENGTH_IE_MESSAGE_OCTETS;
 use crate::MAX_SEGMENT_DATA_OCTETS;
 use crate::MAX_SEGMENTS;
@@ -13,6 +12,7 @@ use crate::SegmentedMessage;
 use tsar::AcknowledgmentWindow;
 use tsar::Compression;
 use tsar::CrcStatus;
+use tsar::HEADER_OCTETS;
 use tsar::MessageCrc;
 use tsar::MessageLength;
 use tsar::OptionalServices;

@@ -11,7 +11,8 @@ use lib.Seq.{sets, take-all, drop-drop}
 use Rattle.octets.specs.Laws.{le-or-lt}
 use Rattle.tsar.specs.Rows.{Refusal, refusal}
 use Rattle.tsar.specs.Numbers.{number}
-use Rattle.tsar.specs.Reading.{Decoded, decodedBy, segmentOf as decodeOf}
+use Rattle.tsar.specs.Reading.{Decoded, toldOf, toldBy, decodedBy, segmentOf as decodeOf}
+use Rattle.tsar.proofs.Told.{told-whole}
 use Rattle.tsar.specs.declared.Error.{Error}
 use Rattle.tsar.specs.declared.DecodedSegment.{DecodedSegment}
 use Rattle.tsar.specs.declared.decode.DecodeAnswer.{DecodeAnswer}
@@ -64,17 +65,17 @@ module _ (peer : MobileIdentity) (protocol : HigherLayerProtocol) (reading : ℕ
   step-by d e = ap (λ (x : Decoded). decodedStep peer protocol reading x r store output) e
 
   -- decoding refuses it
-  pub step-refused : (a : DecodeAnswer) (e : Error) → a ≡ read.Refused e → decodedBy octets a ≡ decodeOf (r .terms .version) octets
+  pub step-refused : (a : DecodeAnswer) (e : Error) → a ≡ read.Refused e → toldBy a ≡ toldOf (decodeOf (r .terms .version) octets)
       → refuses (number e) r store output ≡ trainStep peer protocol reading r octets store output
-  step-refused a e p q = step-by (decodedBy octets (read.Refused e)) (ap (decodedBy octets) (sym p) ∙ q)
+  step-refused a e p q = step-by (decodedBy octets (read.Refused e)) (ap (decodedBy octets) (sym p) ∙ told-whole (r .terms .version) octets a q)
 
   -- it is decoded, and received with its data
-  pub step-decoded : (a : DecodeAnswer) (d : DecodedSegment) (l : List ℕ) → a ≡ read.Decoded d → decodedBy octets a ≡ decodeOf (r .terms .version) octets → l ≡ take (d .head .«segment_data_length») (drop 3 octets)
+  pub step-decoded : (a : DecodeAnswer) (d : DecodedSegment) (l : List ℕ) → a ≡ read.Decoded d → toldBy a ≡ toldOf (decodeOf (r .terms .version) octets) → l ≡ take (d .head .«segment_data_length») (drop 3 octets)
       → receiveOf 300000 r (record { peer = peer; protocol = protocol; segment = d .head .segment; octets = l; unparsed = d .«unparsed_octets»; reading = reading }) store output
       ≡ trainStep peer protocol reading r octets store output
   step-decoded a d l p q e =
       ap (λ (x : List ℕ). receiveOf 300000 r (record { peer = peer; protocol = protocol; segment = d .head .segment; octets = x; unparsed = d .«unparsed_octets»; reading = reading }) store output) e
-      ∙ step-by (decodedBy octets (read.Decoded d)) (ap (decodedBy octets) (sym p) ∙ q)
+      ∙ step-by (decodedBy octets (read.Decoded d)) (ap (decodedBy octets) (sym p) ∙ told-whole (r .terms .version) octets a q)
 
 -- ---- one segment after another
 

@@ -21,6 +21,7 @@ use receiver_answers::put_received;
 use receiver_image::RECEIVER_OCTETS;
 use receiver_image::get_receiver;
 use receiver_image::put_receiver;
+use tsar::HEADER_OCTETS;
 use tsar::decode::DecodeAnswer;
 use tsar::decode::decode_segment;
 ghost use mathlib.Core.Path.{_≡_};
@@ -38,9 +39,6 @@ const COUNT_OCTETS: usize = 8;
 
 // Protocols are 0 to 2.
 const LAST_PROTOCOL: u8 = 2;
-
-// The octets of a segment before its data.
-const HEADER_OCTETS: usize = 3;
 
 // The octets of a length.
 const LENGTH_OCTETS: usize = 2;
@@ -110,11 +108,12 @@ fn walk(
             }
             DecodeAnswer::Decoded(decoded) => {
                 let head = decoded.head;
+                let end = HEADER_OCTETS + head.segment_data_length;
                 let out = receiver.receive(
                     peer,
                     protocol,
                     head.segment,
-                    part(segment, HEADER_OCTETS, head.segment_data_length),
+                    &segment[HEADER_OCTETS..end],
                     decoded.unparsed_octets,
                     reading,
                     store,

@@ -11,3 +11,4 @@ pub mod Writes
 pub mod Sizes
 pub mod Whole
 pub mod OneOctet
+pub mod Told

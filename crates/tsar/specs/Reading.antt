@@ -33,6 +33,7 @@ use Rattle.tsar.specs.declared.SegmentType.{SegmentType}
 use Rattle.tsar.specs.declared.SegmentType.the-variants as type
 use Rattle.tsar.specs.declared.SegmentKind.{SegmentKind}
 use Rattle.tsar.specs.declared.SegmentKind.the-variants as kind'
+use Rattle.tsar.specs.declared.SegmentHead.{SegmentHead}
 use Rattle.tsar.specs.Rows.{Refusal, firstOf}
 use Rattle.tsar.specs.Numbers.{number}
 use Rattle.tsar.specs.Layout.{WholeSegment, whole}
@@ -198,7 +199,32 @@ segmentOf version l =
     ∷ [])
     (refused (4, 0))
 
--- what decode_segment's answer says, the data being a part of the octets read
+-- ---- what a caller is told of it
+
+-- the head of a segment with its data
+abbrev pub headOfWhole : WholeSegment → SegmentHead
+headOfWhole s =
+    record {
+      segment = record { «transaction_id» = s .«transaction_id»; «sequence_number» = s .«sequence_number»; kind = s .kind };
+      «segment_data_length» = length (s .«segment_data»);
+    }
+
+-- the head, with the number of data octets, and the number of octets unparsed; or the refusal
+pub data Told : Type 0 where
+  told : SegmentHead → ℕ → Told
+  untold : Refusal → Told
+
+-- of what reading gives
+abbrev pub toldOf : Decoded → Told
+toldOf (decoded s n) = told (headOfWhole s) n
+toldOf (refused r) = untold r
+
+-- by decode_segment's answer
+abbrev pub toldBy : DecodeAnswer → Told
+toldBy (answered.Decoded d) = told (d .head) (d .«unparsed_octets»)
+toldBy (answered.Refused e) = untold (number e)
+
+-- the answer with its data, which are a part of the octets read
 abbrev pub decodedBy : List ℕ → DecodeAnswer → Decoded
 decodedBy l (answered.Decoded d) = decoded (whole (d .head .segment) (take (d .head .«segment_data_length») (drop 3 l))) (d .«unparsed_octets»)
 decodedBy l (answered.Refused e) = refused (number e)

@@ -30,7 +30,7 @@ use crate::begin_refused;
 ghost use mathlib.Core.Path.{_≡_};
 ghost use Prim.Native.Nat.{_+_, _*_, _<_, _≤_};
 ghost use lib.ListN.{length, drop};
-ghost use Rattle.tsar.specs.Reading.{servicesOf, two, three, four, lengthRead, servicesRead, crcRead, lengthStep, servicesStep, crc16Step, crc24Step, stepOf, paramsOf, kindOf, segmentAs, segmentOf, decodedBy};
+ghost use Rattle.tsar.specs.Reading.{servicesOf, two, three, four, lengthRead, servicesRead, crcRead, lengthStep, servicesStep, crc16Step, crc24Step, stepOf, paramsOf, kindOf, segmentAs, segmentOf, toldOf, toldBy};
 
 // Place values: of the lowest bit of a parameter's name in its octet, of the protocol bits and of the type in a header.
 const PARAMETER_PLACE: u8 = 16;
@@ -410,9 +410,15 @@ fn kind_of(kind: SegmentType, p: Params) -> SegmentKind
     }
 }
 
+fn wide(octet: u8) -> usize
+    ensures { λ r. ⌜ r ≡ octet ⌝ }
+{
+    octet as usize
+}
+
 // A segment of a type, from the test for three octets on.
 fn read_as(bytes: &[u8], kind: SegmentType) -> DecodeAnswer
-    ensures { λ r. ⌜ decodedBy (now (bytes .entry)) r ≡ segmentAs kind (now (bytes .entry)) ⌝ }
+    ensures { λ r. ⌜ toldBy r ≡ toldOf (segmentAs kind (now (bytes .entry))) ⌝ }
 {
     if bytes.len() < HEADER_OCTETS {
         return DecodeAnswer::Refused(Error::Truncated);
@@ -439,7 +445,7 @@ fn read_as(bytes: &[u8], kind: SegmentType) -> DecodeAnswer
                         sequence_number,
                         kind: kind_of(kind, params),
                     },
-                    segment_data_length: length as usize,
+                    segment_data_length: wide(length),
                 },
                 unparsed_octets: bytes.len() - at,
             })
@@ -447,9 +453,10 @@ fn read_as(bytes: &[u8], kind: SegmentType) -> DecodeAnswer
     }
 }
 
-// Reads a segment of any octets under any version.
+// Reads a segment of any octets under any version. The answer has the head of what is read and the numbers of its data octets and
+// of the octets unparsed, by value.
 pub fn decode_segment(bytes: &[u8], version: u8) -> DecodeAnswer
-    ensures { λ r. ⌜ decodedBy (now (bytes .entry)) r ≡ segmentOf version (now (bytes .entry)) ⌝ }
+    ensures { λ r. ⌜ toldBy r ≡ toldOf (segmentOf version (now (bytes .entry))) ⌝ }
 {
     if version < PV1 {
         return DecodeAnswer::Refused(Error::Version);

@@ -6,7 +6,8 @@ ghost use Rattle.tsar.specs.Reading.{beginTest};
 pub mod decode;
 pub mod encode;
 
-const HEADER_OCTETS: usize = 3;
+// The octets of a segment before its data.
+pub const HEADER_OCTETS: usize = 3;
 
 const OPTIONAL_WORD_OCTETS: usize = 2;
 

@@ -1,4 +1,4 @@
--- `codec_c::catkhize_decode` meets its contract: the test of its answer, then what reading gives, by `decode-gives`. Assumes nothing.
+-- `codec_c::catkhize_decode` meets its contract: the test of its answer, then what decode_segment told. Assumes nothing.
 use borrow.Author.Needs.{needs}
 use borrow.Author.Tests.{lt-ltb, le-ltb}
 use mathlib.Core.Path.{sym, ap, _∙_}
@@ -7,11 +7,11 @@ use mathlib.Core.List.{List}
 use Prim.Native.Nat.{ℕ}
 use denote.Ref.{now}
 use Rattle.tsar.specs.Rows.{Refusal, Passed, start, skip, stop}
-use Rattle.tsar.specs.Reading.{decodedBy}
+use Rattle.tsar.specs.Reading.{toldBy}
 use Rattle.tsar.specs.declared.decode.DecodeAnswer.{DecodeAnswer}
 use Rattle.codec_c.specs.Codes.{short}
 use Rattle.codec_c.specs.Calls.{decodeCall, decodeGives, decodeTests}
-use Rattle.codec_c.specs.Laws.{decode-refused, decode-passed, decode-gives}
+use Rattle.codec_c.specs.Laws.{decode-refused, decode-passed}
 use Rattle.codec_c.proofs.catkhize_decode.Statement.{statement}
 use Rattle.codec_c.proofs.catkhize_decode.Tie as tie
 
@@ -39,9 +39,6 @@ error-code-requires c κs = search needs
 enum-known-d : tie.Need-enum-known-d
 enum-known-d c = search needs
 
-data-octets-requires : tie.Need-data-octets-requires
-data-octets-requires c κs = search needs
-
 put-part-requires : tie.Need-put-part-requires
 put-part-requires c κs = search needs
 
@@ -50,20 +47,19 @@ returns-2 c =
     let x = c .before .before .before .before .before .before .before .before .args in
     let d = c .before .before .before .before .decode-segment in
     ap (λ (n : ℕ). decodeCall n (now (x .answer))) (c .error-code .ensures)
-    ∙ ap (λ (r : DecodeAnswer). decodeGives (decodedBy (now (x .octets)) r) (now (x .answer))) (sym (c .before .before .e .given .1))
-    ∙ decode-passed (now (x .octets)) (x .version) (now (x .answer)) (decodedBy (now (x .octets)) (d .result)) (passed-1 (c .before .before .before .before .before) .rest) (d .ensures)
+    ∙ ap (λ (r : DecodeAnswer). decodeGives (toldBy r) (now (x .answer))) (sym (c .before .before .e .given .1))
+    ∙ decode-passed (now (x .octets)) (x .version) (now (x .answer)) (toldBy (d .result)) (passed-1 (c .before .before .before .before .before) .rest) (d .ensures)
 
 same-length : tie.Need-same-length
 same-length c = search needs
 
 returns-3 : tie.Need-returns-3
 returns-3 c =
-    let x = c .before .before .before .before .before .before .before .before .before .before .before .before .before .before .args in
-    let d = c .before .before .before .before .before .before .before .before .before .before .decode-segment in
+    let x = c .before .before .before .before .before .before .before .before .before .before .before .before .args in
+    let d = c .before .before .before .before .before .before .before .before .decode-segment in
     ap (decodeCall 0) (c .before .before .put-part .ensures)
-    ∙ decode-gives (now (x .octets)) (now (x .answer)) _ (c .before .before .before .before .data-octets .result) (c .before .before .before .before .data-octets .ensures)
-    ∙ ap (λ (r : DecodeAnswer). decodeGives (decodedBy (now (x .octets)) r) (now (x .answer))) (sym (c .before .before .before .before .before .before .before .before .d .given .1))
-    ∙ decode-passed (now (x .octets)) (x .version) (now (x .answer)) (decodedBy (now (x .octets)) (d .result)) (passed-1 (c .before .before .before .before .before .before .before .before .before .before .before) .rest) (d .ensures)
+    ∙ ap (λ (r : DecodeAnswer). decodeGives (toldBy r) (now (x .answer))) (sym (c .before .before .before .before .before .before .d .given .1))
+    ∙ decode-passed (now (x .octets)) (x .version) (now (x .answer)) (toldBy (d .result)) (passed-1 (c .before .before .before .before .before .before .before .before .before) .rest) (d .ensures)
 
 pub catkhize-decode-spec : {M : Type 1} → statement M
 catkhize-decode-spec =
@@ -74,7 +70,6 @@ catkhize-decode-spec =
     enum-known-e
     error-code-requires
     enum-known-d
-    data-octets-requires
     put-part-requires
     returns-2
     same-length

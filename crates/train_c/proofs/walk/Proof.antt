@@ -6,9 +6,10 @@ use mathlib.Core.List.{List}
 use Prim.Native.Nat.{ℕ, _+_, _*_, _/_, _-_, _≤_, _<_, min}
 use native.Mathlib.Nat.{sub-zero}
 use native.Mathlib.Omega.{arith}
-use lib.ListN.{length, drop}
+use lib.ListN.{length, take, drop, length-take}
 use denote.Ref.{now}
 use Rattle.tsar.specs.Numbers.{number}
+use Rattle.tsar.proofs.Told.{told-within}
 use Rattle.receiver.specs.Answers.{Step, refuses}
 use Rattle.receiver.specs.Says.{replySays, messageSays, receiveSays, received}
 use Rattle.train_c.specs.Walk.{Train, train, segmentsOf, startOf, trainStep, trainOf, after}
@@ -55,15 +56,17 @@ turn b s q =
 abbrev step : tie.After-receive Inv-loop μ-loop → Step
 step b = received (b .receive .result) (b .receive .last .1 .1 .1 .1 .1 .1 .1 .0) (b .receive .last .1 .1 .1 .1 .1 .1 .1 .1 .0)
 
-turned : (b : tie.After-receive Inv-loop μ-loop) → after (left (b .before .before .before .before .before .before .before .before .before .before .before)) (stands (b .before .before .before .before .before .before .before .before .before .before .before .before .before .before)) (step b .answer) (step b .receiver) (step b .store) (step b .output) ≡ wholeTrain (b .before .before .before .before .before .before .before .before .before .before .before .before .before .before .before .before .before .before .before)
+turned : (b : tie.After-receive Inv-loop μ-loop) → after (left (b .before .before .before .before .before .before .before .before .before .before .before .before)) (stands (b .before .before .before .before .before .before .before .before .before .before .before .before .before .before .before)) (step b .answer) (step b .receiver) (step b .store) (step b .output) ≡ wholeTrain (b .before .before .before .before .before .before .before .before .before .before .before .before .before .before .before .before .before .before .before .before)
 turned b =
-    let x = b .before .before .before .before .before .before .before .before .before .before .before .before .before .before .before .before .before .before .before .args in
-    let l = b .before .before .before .before .before .before .before .before .before .before .before .before .before .before .loop in
-    let d = b .before .before .before .before .before .before .before .before .decode-segment in
-    let p = b .before .before .before .part2 in
-    turn (b .before .before .before .before .before .before .before .before .before .before) (step b)
+    let x = b .before .before .before .before .before .before .before .before .before .before .before .before .before .before .before .before .before .before .before .before .args in
+    let l = b .before .before .before .before .before .before .before .before .before .before .before .before .before .before .before .loop in
+    let d = b .before .before .before .before .before .before .before .before .before .decode-segment in
+    let n = b .before .before .before .before .before .before .before .decoded .given .0 .0 .head .«segment_data_length» in
+    let o = now (b .before .before .before .before .before .before .before .before .before .before .before .part .result) in
+    let k : 3 + n - 3 ≡ n = omega arith in
+    turn (b .before .before .before .before .before .before .before .before .before .before .before) (step b)
     (b .receive .ensures
-    ∙ step-decoded (x .peer) (x .protocol) (x .reading) (l .receiver) (now (b .before .before .before .before .before .before .before .before .before .before .part .result)) (l .store) (l .output) (d .result) _ (now (p .result)) (b .before .before .before .before .before .before .decoded .given .1) (d .ensures) (p .ensures))
+    ∙ step-decoded (x .peer) (x .protocol) (x .reading) (l .receiver) (now (b .before .before .before .before .before .before .before .before .before .before .before .part .result)) (l .store) (l .output) (d .result) _ (take (3 + n - 3) (drop 3 o)) (b .before .before .before .before .before .before .before .decoded .given .1) (d .ensures) (ap (λ (m : ℕ). take m (drop 3 o)) k))
 
 less : (count i : ℕ) → i < count → count - (i + 1) < count - i
 less count i h = omega arith
@@ -112,8 +115,23 @@ returns c =
 enum-known-decoded : tie.Need-enum-known-decoded Inv-loop μ-loop
 enum-known-decoded c = search needs
 
-part-requires-2 : tie.Need-part-requires-2 Inv-loop μ-loop
-part-requires-2 c κs = search needs
+-- the data of a segment that was decoded lie within its octets
+data-there : (c : tie.After-struct-known Inv-loop μ-loop) → 3 + c .before .before .before .decoded .given .0 .0 .head .«segment_data_length» ≤ length (now (c .before .before .before .before .before .before .before .part .result))
+data-there c = told-within (c .before .before .before .before .before .before .before .before .before .before .before .loop .receiver .terms .version) (now (c .before .before .before .before .before .before .before .part .result)) (c .before .before .before .before .before .decode-segment .result) (c .before .before .before .decoded .given .0 .0) (c .before .before .before .before .before .decode-segment .ensures) (c .before .before .before .decoded .given .1)
+
+add-end : tie.Need-add-end Inv-loop μ-loop
+add-end c =
+    let w = c .before .before .before .before .before .before .before .before .wide in
+    omega (arith, data-there c, ap length (c .before .before .before .before .before .before .before .part .ensures), length-take (w .result) (drop (c .before .before .before .before .before .before .before .before .before .before .before .loop .at) (now (c .before .before .before .before .before .before .before .before .before .before .before .before .before .before .before .before .args .octets))), w .ensures .1)
+
+sub-receive : tie.Need-sub-receive Inv-loop μ-loop
+sub-receive c = omega arith
+
+part-receive-start : tie.Need-part-receive-start Inv-loop μ-loop
+part-receive-start c = let h = data-there c in search needs
+
+part-receive-end : tie.Need-part-receive-end Inv-loop μ-loop
+part-receive-end c = let h = data-there c in search needs
 
 receive-requires : tie.Need-receive-requires Inv-loop μ-loop
 receive-requires c κs = search needs
@@ -125,14 +143,14 @@ error-code-requires-2 : tie.Need-error-code-requires-2 Inv-loop μ-loop
 error-code-requires-2 c κs = search needs
 
 same-length-3 : tie.Need-same-length-3 Inv-loop μ-loop
-same-length-3 c = c .before .before .before .before .before .before .before .before .store .given ∙ c .before .before .before .before .before .before .before .before .before .before .before .before .before .before .before .before .before .before .before .before .before .before .before .loop .inv .0
+same-length-3 c = c .before .before .before .before .before .before .before .before .store .given ∙ c .before .before .before .before .before .before .before .before .before .before .before .before .before .before .before .before .before .before .before .before .before .before .before .before .loop .inv .0
 
 same-length-4 : tie.Need-same-length-4 Inv-loop μ-loop
-same-length-4 c = c .before .before .before .before .before .before .output .given ∙ c .before .before .before .before .before .before .before .before .before .before .before .before .before .before .before .before .before .before .before .before .before .before .before .loop .inv .1
+same-length-4 c = c .before .before .before .before .before .before .output .given ∙ c .before .before .before .before .before .before .before .before .before .before .before .before .before .before .before .before .before .before .before .before .before .before .before .before .loop .inv .1
 
 returns-2 : tie.Need-returns-2 Inv-loop μ-loop
 returns-2 c =
-    train-stops (left (c .before .before .before .before .before .before .before .before .before .before .before .before .before .before .before .before .before .before .before .before)) (stands (c .before .before .before .before .before .before .before .before .before .before .before .before .before .before .before .before .before .before .before .before .before .before .before)) (step (c .before .before .before .before .before .before .before .before .before)) (wholeTrain (c .before .before .before .before .before .before .before .before .before .before .before .before .before .before .before .before .before .before .before .before .before .before .before .before .before .before .before .before)) _ (c .error-code2 .result) (turned (c .before .before .before .before .before .before .before .before .before)) (ap receiveSays (c .before .before .answer .given .1)) (c .error-code2 .ensures)
+    train-stops (left (c .before .before .before .before .before .before .before .before .before .before .before .before .before .before .before .before .before .before .before .before .before)) (stands (c .before .before .before .before .before .before .before .before .before .before .before .before .before .before .before .before .before .before .before .before .before .before .before .before)) (step (c .before .before .before .before .before .before .before .before .before)) (wholeTrain (c .before .before .before .before .before .before .before .before .before .before .before .before .before .before .before .before .before .before .before .before .before .before .before .before .before .before .before .before .before)) _ (c .error-code2 .result) (turned (c .before .before .before .before .before .before .before .before .before)) (ap receiveSays (c .before .before .answer .given .1)) (c .error-code2 .ensures)
 
 enum-known-answer-2 : tie.Need-enum-known-answer-2 Inv-loop μ-loop
 enum-known-answer-2 c = search needs
@@ -141,20 +159,20 @@ next-requires : tie.Need-next-requires Inv-loop μ-loop
 next-requires c κs = search needs
 
 add-i : tie.Need-add-i Inv-loop μ-loop
-add-i c = omega (arith, c .before .before .before .before .before .before .before .before .before .before .before .before .before .before .before .before .before .before .before .before .before .before .loop-test .taken, c .before .before .before .before .before .before .before .before .before .before .before .before .before .before .before .before .before .before .before .before .before .before .before .loop .inv .4)
+add-i c = omega (arith, c .before .before .before .before .before .before .before .before .before .before .before .before .before .before .before .before .before .before .before .before .before .before .before .loop-test .taken, c .before .before .before .before .before .before .before .before .before .before .before .before .before .before .before .before .before .before .before .before .before .before .before .before .loop .inv .4)
 
 loop-less : tie.Need-loop-less Inv-loop μ-loop
-loop-less c = less (length (now (c .before .before .before .before .before .before .before .before .before .before .before .before .before .before .before .before .before .before .before .before .before .before .before .before .before .before .before .before .args .lengths)) / 2) (c .before .before .before .before .before .before .before .before .before .before .before .before .before .before .before .before .before .before .before .before .before .before .before .loop .i) (c .before .before .before .before .before .before .before .before .before .before .before .before .before .before .before .before .before .before .before .before .before .before .loop-test .taken)
+loop-less c = less (length (now (c .before .before .before .before .before .before .before .before .before .before .before .before .before .before .before .before .before .before .before .before .before .before .before .before .before .before .before .before .before .args .lengths)) / 2) (c .before .before .before .before .before .before .before .before .before .before .before .before .before .before .before .before .before .before .before .before .before .before .before .before .loop .i) (c .before .before .before .before .before .before .before .before .before .before .before .before .before .before .before .before .before .before .before .before .before .before .before .loop-test .taken)
 
 loop-again : tie.Need-loop-again Inv-loop μ-loop
 loop-again c =
-    let x = c .before .before .before .before .before .before .before .before .before .before .before .before .before .before .before .before .before .before .before .before .before .before .before .before .before .before .before .before .args in
-    let l = c .before .before .before .before .before .before .before .before .before .before .before .before .before .before .before .before .before .before .before .before .before .before .before .loop in
+    let x = c .before .before .before .before .before .before .before .before .before .before .before .before .before .before .before .before .before .before .before .before .before .before .before .before .before .before .before .before .before .args in
+    let l = c .before .before .before .before .before .before .before .before .before .before .before .before .before .before .before .before .before .before .before .before .before .before .before .before .loop in
     let s = step (c .before .before .before .before .before .before .before .before .before) in
     let m = c .before .before .answer2 .given .0 .0 in (
       c .before .before .before .before .before .before .before .before .store .given ∙ l .inv .0,
       c .before .before .before .before .before .before .output .given ∙ l .inv .1,
-      omega (arith, c .before .before .before .before .before .before .before .before .before .before .before .before .before .before .before .before .before .before .before .before .before .before .loop-test .taken),
+      omega (arith, c .before .before .before .before .before .before .before .before .before .before .before .before .before .before .before .before .before .before .before .before .before .before .before .loop-test .taken),
       l .inv .3,
       l .inv .4,
       ap
@@ -163,7 +181,7 @@ loop-again c =
           (segmentsOf (length (now (x .lengths)) / 2 - (l .i + 1)) (drop (2 * (l .i + 1)) (now (x .lengths))) (drop k (now (x .octets))))
           (train 0 (s .receiver) (s .store) (s .output) (l .i + 1) (replySays (m .response)) (messageSays (m .message))))
           (c .next .ensures)
-          ∙ train-goes (left (c .before .before .before .before .before .before .before .before .before .before .before .before .before .before .before .before .before .before .before .before)) (stands (c .before .before .before .before .before .before .before .before .before .before .before .before .before .before .before .before .before .before .before .before .before .before .before)) s (wholeTrain (c .before .before .before .before .before .before .before .before .before .before .before .before .before .before .before .before .before .before .before .before .before .before .before .before .before .before .before .before)) (replySays (m .response)) (messageSays (m .message)) (turned (c .before .before .before .before .before .before .before .before .before)) (ap receiveSays (c .before .before .answer2 .given .1)),
+          ∙ train-goes (left (c .before .before .before .before .before .before .before .before .before .before .before .before .before .before .before .before .before .before .before .before .before)) (stands (c .before .before .before .before .before .before .before .before .before .before .before .before .before .before .before .before .before .before .before .before .before .before .before .before)) s (wholeTrain (c .before .before .before .before .before .before .before .before .before .before .before .before .before .before .before .before .before .before .before .before .before .before .before .before .before .before .before .before .before)) (replySays (m .response)) (messageSays (m .message)) (turned (c .before .before .before .before .before .before .before .before .before)) (ap receiveSays (c .before .before .answer2 .given .1)),
     )
 
 same-length-5 : tie.Need-same-length-5 Inv-loop μ-loop
@@ -197,7 +215,10 @@ walk-spec =
     same-length-2
     returns
     enum-known-decoded
-    part-requires-2
+    add-end
+    sub-receive
+    part-receive-start
+    part-receive-end
     receive-requires
     enum-known-answer
     error-code-requires-2

@@ -1,12 +1,13 @@
 -- `tsar::decode::read_as` meets its contract. The tests are the rows of `segmentAs`; past them the answer is what `read_params`
 -- ensures, which `as-params` turns into the segment, and `ends-within` has the loop end within the octets. Assumes nothing.
-use mathlib.Core.Path.{sym, ap, _∙_}
+use mathlib.Core.Path.{_≡_, sym, ap, ap₂, _∙_}
 use native.Mathlib.Omega.{arith}
-use Prim.Native.Nat.{_+_, _-_, _%_}
+use Prim.Native.Nat.{ℕ, _+_, _-_, _%_}
 use lib.ListN.{length, getD, take, drop, length-drop}
+use lib.Seq.{length-take-le}
 use Rattle.tsar.specs.declared.SegmentKind.{SegmentKind}
 use Rattle.tsar.proofs.Loop.{ends-within, as-params}
-use Rattle.tsar.specs.Reading.{decoded, noParams, segmentAs}
+use Rattle.tsar.specs.Reading.{Told, told, toldOf, noParams, segmentAs}
 use borrow.Author.Tests.{lt-ltb, le-ltb}
 use borrow.Author.Needs.{needs}
 use Rattle.tsar.proofs.decode.read_as.Statement.{statement}
@@ -54,13 +55,13 @@ enum-known-parsed c = search needs
 kind-of-requires : tie.Need-kind-of-requires
 kind-of-requires c κs = search needs
 
-cast-t27 : tie.Need-cast-t27
-cast-t27 c = omega (arith, c .before .before .before .before .before .before .before .before .before .shared-slice-known4 .given 2)
+wide-requires : tie.Need-wide-requires
+wide-requires c κs = search needs
 
 sub-t30 : tie.Need-sub-t30
 sub-t30 c =
-    let b = c .before .before .before .before .before in
-    let g = c .before .before .before .parsed .given .1 in
+    let b = c .before .before .before .before .before .before in
+    let g = c .before .before .before .before .parsed .given .1 in
     let a = b .before .before .before .before .before .before .before .before .before .args in
     let end = 3 + getD (a .bytes .now) 2 0 in
     omega (arith, ends-within _ (a .kind) noParams end (drop end (a .bytes .now)) _ (sym g ∙ b .read-params .ensures), length-drop end (a .bytes .now), b .before .if3 .left)
@@ -71,11 +72,13 @@ returns-4 c = simp (le-ltb _ _ (c .before .before .before .before .before .befor
 
 returns-5 : tie.Need-returns-5
 returns-5 c =
-    let b = c .before .before .before .before .before in
-    let g = c .before .before .before .parsed .given .1 in
+    let b = c .before .before .before .before .before .before in
+    let g = c .before .before .before .before .parsed .given .1 in
     let a = b .before .before .before .before .before .before .before .before .before .args in
-    ap (λ (k : SegmentKind). decoded (record { «transaction_id» = getD (a .bytes .now) 0 0 % 8; «sequence_number» = getD (a .bytes .now) 1 0; «segment_data» = take (getD (a .bytes .now) 2 0) (drop 3 (a .bytes .now)); kind = k }) (length (a .bytes .now) - c .before .before .before .parsed .given .0 .0 .at)) (c .kind-of .ensures)
-    ∙ sym (as-params (a .kind) (a .bytes .now) _ (b .before .before .before .before .before .before .before .if1 .left) (sym (b .before .before .before .begin-refused .ensures) ∙ b .before .before .if2 .left) (b .before .if3 .left) (sym g ∙ b .read-params .ensures))
+    let l = a .bytes .now in
+    let n : length (take (getD l 2 0) (drop 3 l)) ≡ getD l 2 0 = length-take-le (getD l 2 0) (drop 3 l) (omega (arith, length-drop 3 l, b .before .if3 .left)) in
+    ap₂ {C = Told} (λ (k : SegmentKind) (m : ℕ). told (record { segment = record { «transaction_id» = getD l 0 0 % 8; «sequence_number» = getD l 1 0; kind = k }; «segment_data_length» = m }) (length l - c .before .before .before .before .parsed .given .0 .0 .at)) (c .before .kind-of .ensures) (c .wide .ensures ∙ sym n)
+    ∙ ap toldOf (sym (as-params (a .kind) l _ (b .before .before .before .before .before .before .before .if1 .left) (sym (b .before .before .before .begin-refused .ensures) ∙ b .before .before .if2 .left) (b .before .if3 .left) (sym g ∙ b .read-params .ensures)))
 
 pub read-as-spec : {M : Type 1} → statement M
 read-as-spec =
@@ -94,7 +97,7 @@ read-as-spec =
     enum-known-e
     enum-known-parsed
     kind-of-requires
-    cast-t27
+    wide-requires
     sub-t30
     returns-4
     returns-5)
