@@ -20,3 +20,5 @@ pub mod ProgressAll
 pub mod Theorem
 pub mod Witness
 pub mod Refuted
+pub mod Leaves
+pub mod Left

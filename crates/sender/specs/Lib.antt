@@ -12,3 +12,5 @@ pub mod Reached
 pub mod Keeps
 pub mod CallList
 pub mod Made
+pub mod Leaves
+pub mod Left
