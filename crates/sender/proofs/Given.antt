@@ -26,6 +26,7 @@ use Rattle.tsar.specs.declared.SegmentKind.the-variants as kind'
 use Rattle.tsar.specs.declared.SegmentHead.{SegmentHead}
 use Rattle.segmentation.specs.Frozen.{Proposal, Checked, noHead, headAt, keptHeads, frozenOf, frozenRefusal, checkedAs, tryFromFrozen}
 use Rattle.segmentation.specs.Accepted.{accepted-iff}
+use Rattle.segmentation.specs.Heads.{none-kept}
 use Rattle.segmentation.specs.declared.FrozenMessage.{FrozenMessage}
 use Rattle.sender.specs.TryNew.{proposing, isNone, sameHead, sameHeads, sameFrozen, isFrozen}
 
@@ -120,3 +121,7 @@ empty-turn hs i l h =
 pub empty-last : (hs : List SegmentHead) (i : ℕ) → length hs ≡ 256 → i ≡ 256 → sameHeads (replicate (256 - i) noHead) (drop i hs) ≡ true
 empty-last hs i l e =
     ap (λ (k : ℕ). sameHeads (replicate (256 - k) noHead) (drop k hs)) e ∙ ap (λ (t : List SegmentHead). sameHeads (replicate 0 noHead) t) (drop-of-length-le hs {i = 256} (omega arith)) ∙ empty-end
+
+-- all of them: those of a plan of no segments
+pub empty-all : {r : Bool} (hs : List SegmentHead) → r ≡ sameHeads (replicate (256 - 0) noHead) (drop 0 hs) → r ≡ sameHeads (keptHeads [] 0) hs
+empty-all hs e = e ∙ ap (λ (gs : List SegmentHead). sameHeads gs hs) (none-kept noHead refl)

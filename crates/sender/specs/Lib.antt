@@ -14,3 +14,4 @@ pub mod CallList
 pub mod Made
 pub mod Leaves
 pub mod Left
+pub mod Exact

@@ -24,7 +24,7 @@ use Rattle.sender.specs.declared.SenderState.{SenderState}
 use Rattle.sender.specs.declared.Terms.{Terms}
 use Rattle.sender.specs.Record.{sameBool, planCount}
 use Rattle.sender.specs.Calls.{refused, answered}
-use Rattle.sender.specs.TryNew.{samePlan, isPlan, isPlanned, proposing, isFrozen, isGiven, tryNewRows, madeAfter, tryNewOf}
+use Rattle.sender.specs.TryNew.{samePlan, isPlan, isPlanned, proposing, isFrozen, isEmpty, isGiven, tryNewRows, madeAfter, tryNewOf}
 use Rattle.sender.specs.Pending.{and-both}
 use Rattle.sender.specs.CallList.{Call, answers, afterwards, NoneImpossible, ReachedSender, first-reached, list-keeps, list-says}
 
@@ -64,8 +64,8 @@ pub given-count : (p : Plan) (message : List ℕ) → isGiven p message ≡ true
 unfolding isGiven
 given-count p message e = go (p .form) e
   where
-    go : (f : PlanForm) → elim f [ form.Planned q ↦ isPlanned q (length message) | form.Frozen ↦ isFrozen (tryFromFrozen (proposing (p .frozen) message)) (p .frozen) ] ≡ true → (2 ≤ elim f [ form.Planned q ↦ q .count | form.Frozen ↦ p .frozen .count ]) × (elim f [ form.Planned q ↦ q .count | form.Frozen ↦ p .frozen .count ] ≤ 256)
-    go (form.Planned q) e = planned-count q (length message) e
+    go : (f : PlanForm) → elim f [ form.Planned q ↦ isPlanned q (length message) && isEmpty (p .frozen) | form.Frozen ↦ isFrozen (tryFromFrozen (proposing (p .frozen) message)) (p .frozen) ] ≡ true → (2 ≤ elim f [ form.Planned q ↦ q .count | form.Frozen ↦ p .frozen .count ]) × (elim f [ form.Planned q ↦ q .count | form.Frozen ↦ p .frozen .count ] ≤ 256)
+    go (form.Planned q) e = planned-count q (length message) (and-both (isPlanned q (length message)) (isEmpty (p .frozen)) e .0)
     go form.Frozen e = frozen-count (p .frozen) message e
 
 -- ---- from a try_new that was not refused

@@ -99,9 +99,13 @@ sameFrozen f g =
 abbrev pub isFrozen : Checked → FrozenMessage → Bool
 isFrozen c f = isNone (c .refused) && sameFrozen (c .plan) f
 
+-- the frozen part beside a plan of plan_message: that of no segments
+abbrev pub isEmpty : FrozenMessage → Bool
+isEmpty f = sameFrozen noPlan f
+
 -- a record that a planner or the frozen check gives for the message under some ceiling
 unfoldable pub isGiven : Plan → List ℕ → Bool
-isGiven p message = elim (p .form) [ form.Planned q ↦ isPlanned q (length message) | form.Frozen ↦ isFrozen (tryFromFrozen (proposing (p .frozen) message)) (p .frozen) ]
+isGiven p message = elim (p .form) [ form.Planned q ↦ isPlanned q (length message) && isEmpty (p .frozen) | form.Frozen ↦ isFrozen (tryFromFrozen (proposing (p .frozen) message)) (p .frozen) ]
 
 -- ---- try_new
 

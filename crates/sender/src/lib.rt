@@ -102,7 +102,7 @@ pub enum PlanForm {
     Frozen,
 }
 
-// What a sender sends: under Planned the frozen record is not read.
+// What a sender sends. Under Planned the frozen record is that of no segments, as Plan::planned gives it: beside another the plan is none (40).
 pub struct Plan {
     pub form: PlanForm,
     pub frozen: FrozenMessage,

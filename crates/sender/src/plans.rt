@@ -26,7 +26,7 @@ ghost use lib.ListN.{length, drop, replicate};
 ghost use Rattle.tsar.specs.Kinds.{sameLengths, sameServices, sameKind};
 ghost use Rattle.segmentation.specs.Frozen.{noHead, noPlan, tryFromFrozen};
 ghost use Rattle.sender.specs.Record.{outlineOf, planOctets, planBudget, planCount, planWindow};
-ghost use Rattle.sender.specs.TryNew.{samePlan, isPlanned, proposing, sameHead, sameHeads, isFrozen, isGiven, planSegment};
+ghost use Rattle.sender.specs.TryNew.{samePlan, isPlanned, proposing, sameHead, sameHeads, isFrozen, isEmpty, isGiven, planSegment};
 
 // The zero head.
 fn no_head() -> SegmentHead
@@ -214,6 +214,27 @@ fn is_frozen(f: FrozenMessage, message: &[u8]) -> bool
     }
 }
 
+// Whether it is the plan of no segments.
+fn is_no_frozen(f: FrozenMessage) -> bool
+    ensures { λ r. ⌜ r ≡ isEmpty f ⌝ }
+{
+    let heads = f.heads;
+    let window = f.acknowledgment_window;
+    if !empty_from(heads, 0) {
+        return false;
+    }
+    if 0 != f.count {
+        return false;
+    }
+    if 0 != f.message_octets {
+        return false;
+    }
+    if 0 != f.payload_budget_octets {
+        return false;
+    }
+    is_same_window(AcknowledgmentWindow::Prohibited, window)
+}
+
 impl Plan {
     // A plan that plan_message gave.
     pub fn planned(p: SegmentedMessage) -> Plan
@@ -326,7 +347,13 @@ impl Plan {
     {
         let form = self.form;
         match form {
-            PlanForm::Planned(p) => is_planned(p, message),
+            PlanForm::Planned(p) => {
+                let beside = self.frozen;
+                if !is_planned(p, message) {
+                    return false;
+                }
+                is_no_frozen(beside)
+            }
             PlanForm::Frozen => {
                 let frozen = self.frozen;
                 is_frozen(frozen, message)

@@ -12,3 +12,4 @@ pub mod Sizes
 pub mod Whole
 pub mod OneOctet
 pub mod Told
+pub mod SameKind

@@ -527,8 +527,8 @@ fn is_plan_of(plan: &[u8], message: &[u8]) -> bool {
         set_ceiling(budget);
         let version = ProtocolVersion(1);
         return match plan_message(message, budget, transaction, spell::window(window), version) {
-            // Under Planned the frozen part is not read.
-            Ok(MessagePlan::Segmented(original)) => spell::planned(&original)[..45] == plan[..45],
+            // Under Planned the frozen part is that of no segments.
+            Ok(MessagePlan::Segmented(original)) => spell::planned(&original)[..] == plan[..],
             _ => false,
         };
     }

@@ -165,13 +165,13 @@ fn past_count(g: &mut Group) {
     with_heads(g, rows);
 }
 
-/// Under Planned the frozen record beside the plan is not read.
+/// Under Planned the frozen record beside the plan is the empty one: no planner gives another.
 fn beside(g: &mut Group) {
     let frozen_record = &frozen_plan().0[frozen::COUNT..layout::PLAN];
-    let both = plan()
-        .with(frozen::COUNT, frozen_record)
-        .with64(frozen::COUNT, 257);
-    case(g, new(both), made());
+    let both = plan().with(frozen::COUNT, frozen_record);
+    case(g, new(both), refuses(40));
+    case(g, new(plan().with64(frozen::COUNT, 257)), refuses(40));
+    case(g, new(plan().with64(frozen::COUNT, 0)), made());
 }
 
 pub fn corners(tally: &mut Tally) {
