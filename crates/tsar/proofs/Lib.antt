@@ -13,3 +13,4 @@ pub mod Whole
 pub mod OneOctet
 pub mod Told
 pub mod SameKind
+pub mod Counts
