@@ -17,7 +17,7 @@ use Rattle.tsar.specs.declared.decode.ParamsRead.{ParamsRead}
 use Rattle.tsar.specs.declared.decode.ParamsRead.the-variants as done
 use Rattle.tsar.specs.declared.SegmentType.{SegmentType}
 use Rattle.tsar.specs.declared.SegmentType.the-variants as type
-use Rattle.tsar.specs.Reading.{lengthRead, servicesRead, crcRead, onServices, servicesOf, two, three, four, lengthStep, servicesStep, crc16Step, crc24Step, named, stepOf, onStep, runParams, paramsOf, withParams, beginTest, segmentAs}
+use Rattle.tsar.specs.Reading.{lengthRead, servicesRead, crcRead, onServices, servicesOf, two, three, four, lengthStep, servicesStep, crc16Step, crc24Step, named, stepOf, octetsTaken, onStep, runParams, paramsOf, withParams, beginTest, segmentAs}
 use Rattle.tsar.specs.Rows.{either}
 
 abbrev Within : List ℕ → Step → Type 0
@@ -63,6 +63,15 @@ module _ (p : Params) (l : List ℕ) where
 pub taken-within : (t : SegmentType) (p : Params) (l : List ℕ) (q : Params) (n : ℕ) → stepOf t p l ≡ Taken q n → (0 < n) × (n ≤ length l)
 unfolding P
 taken-within t p l q n e = subst (Within l) e (within p l t)
+
+octets-in : (l : List ℕ) (s : Step) → Within l s → octetsTaken s ≤ length l
+octets-in l (Taken q n) w = w .1
+octets-in l Stop w = omega arith
+octets-in l (Refused n) w = omega arith
+
+pub octets-within : (t : SegmentType) (p : Params) (l : List ℕ) → octetsTaken (stepOf t p l) ≤ length l
+unfolding P
+octets-within t p l = octets-in l (stepOf t p l) (within p l t)
 
 -- the definition, one step on
 module _ (k : SegmentType) (p : Params) (at : ℕ) (l : List ℕ) where

@@ -135,6 +135,15 @@ named type.End m p l = firstOf ((eqb m 1, lengthStep p l) ∷ (eqb m 2, crc16Ste
 unfoldable pub stepOf : SegmentType → Params → List ℕ → Step
 stepOf t p l = cond (eqb (length l) 0) Stop (named t (getD l 0 0 / 16) p l)
 
+-- the octets that a step takes, none where no parameter is taken, and the offset after a step at an offset
+abbrev pub octetsTaken : Step → ℕ
+octetsTaken (Taken p n) = n
+octetsTaken Stop = 0
+octetsTaken (Refused e) = 0
+
+abbrev pub offsetAfter : Step → ℕ → ℕ
+offsetAfter s at = at + octetsTaken s
+
 -- ---- the parameters, one after another, from an offset on, up to the first name that the type doesn't have
 
 abbrev pub noParams : Params

@@ -30,7 +30,7 @@ use crate::begin_refused;
 ghost use mathlib.Core.Path.{_≡_};
 ghost use Prim.Native.Nat.{_+_, _*_, _<_, _≤_};
 ghost use lib.ListN.{length, drop};
-ghost use Rattle.tsar.specs.Reading.{servicesOf, two, three, four, lengthRead, servicesRead, crcRead, lengthStep, servicesStep, crc16Step, crc24Step, stepOf, paramsOf, kindOf, segmentAs, segmentOf, toldOf, toldBy};
+ghost use Rattle.tsar.specs.Reading.{servicesOf, two, three, four, lengthRead, servicesRead, crcRead, lengthStep, servicesStep, crc16Step, crc24Step, stepOf, octetsTaken, offsetAfter, paramsOf, kindOf, segmentAs, segmentOf, toldOf, toldBy};
 
 // Place values: of the lowest bit of a parameter's name in its octet, of the protocol bits and of the type in a header.
 const PARAMETER_PLACE: u8 = 16;
@@ -340,27 +340,69 @@ pub struct Reader<'a> {
     pub offset: usize,
 }
 
-// The parameter at an offset of the octets.
-fn param_at(bytes: &[u8], offset: usize, kind: SegmentType, p: Params) -> Step
-    ensures { λ r. ⌜ r ≡ stepOf kind p (drop offset (now (bytes .entry))) ⌝ }
+// What a reader takes: a step, and the reader after it, whose offset is past the parameter that was taken.
+pub struct Took<'a> {
+    pub step: Step,
+    pub reader: Reader<'a>,
+}
+
+// A step, and the offset after it.
+pub struct Stepped {
+    pub step: Step,
+    pub offset: usize,
+}
+
+fn octets_taken(step: Step) -> usize
+    ensures { λ r. ⌜ r ≡ octetsTaken step ⌝ }
+{
+    match step {
+        Step::Taken(_, n) => n,
+        Step::Stop => 0,
+        Step::Refused(_) => 0,
+    }
+}
+
+// The parameter at an offset of the octets, and the offset after it.
+fn param_at(bytes: &[u8], offset: usize, kind: SegmentType, p: Params) -> Stepped
+    ensures { λ r. ⌜ (r .step ≡ stepOf kind p (drop offset (now (bytes .entry)))) × (r .offset ≡ offsetAfter (r .step) offset) ⌝ }
 {
     if bytes.len() < offset {
-        return Step::Stop;
+        return Stepped {
+            step: Step::Stop,
+            offset,
+        };
     }
-    read_param(&bytes[offset..], kind, p)
+    let step = read_param(&bytes[offset..], kind, p);
+    let after = offset + octets_taken(step);
+    Stepped {
+        step,
+        offset: after,
+    }
 }
 
-fn take<'a>(r: Reader<'a>, kind: SegmentType, p: Params) -> Step
-    ensures { λ s. ⌜ s ≡ stepOf kind p (drop (r .entry .offset) (now (r .entry .bytes))) ⌝ }
+// The parameter at the reader's offset, and the reader after it.
+fn take<'a>(r: Reader<'a>, kind: SegmentType, p: Params) -> Took<'a>
+    ensures { λ s. ⌜ (s .step ≡ stepOf kind p (drop (r .entry .offset) (now (r .entry .bytes)))) × (s .reader .bytes ≡ r .entry .bytes) × (s .reader .offset ≡ offsetAfter (s .step) (r .entry .offset)) ⌝ }
 {
-    param_at(r.bytes, r.offset, kind, p)
+    let got = param_at(r.bytes, r.offset, kind, p);
+    Took {
+        step: got.step,
+        reader: Reader {
+            bytes: r.bytes,
+            offset: got.offset,
+        },
+    }
 }
 
-// The parameter at an offset, through a reader: whoever calls this needs no walk.
-fn take_at(bytes: &[u8], offset: usize, kind: SegmentType, p: Params) -> Step
-    ensures { λ s. ⌜ s ≡ stepOf kind p (drop offset (now (bytes .entry))) ⌝ }
+// The parameter at an offset, through a reader, and that reader's offset after it: whoever calls this needs no walk.
+fn take_at(bytes: &[u8], offset: usize, kind: SegmentType, p: Params) -> Stepped
+    ensures { λ s. ⌜ (s .step ≡ stepOf kind p (drop offset (now (bytes .entry)))) × (s .offset ≡ offsetAfter (s .step) offset) ⌝ }
 {
-    take(Reader { bytes, offset }, kind, p)
+    let took = take(Reader { bytes, offset }, kind, p);
+    Stepped {
+        step: took.step,
+        offset: took.reader.offset,
+    }
 }
 
 // The parameters from an offset on, up to the first name that the type doesn't have.
@@ -375,10 +417,12 @@ fn read_params(bytes: &[u8], start: usize, kind: SegmentType) -> ParamsRead
     };
     let mut at = start;
     let parsed = loop {
-        match take_at(bytes, at, kind, params) {
-            Step::Taken(next, n) => {
+        let got = take_at(bytes, at, kind, params);
+        let step = got.step;
+        at = got.offset;
+        match step {
+            Step::Taken(next, _) => {
                 params = next;
-                at = at + n;
             }
             Step::Stop => {
                 break Parsed { params, at };
