@@ -91,7 +91,7 @@ module _ (p : SegmentedMessage) (sound : Capacities p) where
 
   pub has-segment : (i : ℕ) → i < p .count → hasSegment p i ≡ true
   has-segment i h =
-      simp (lt-ltb i (p .count) h, le-leb i 255 (omega arith), le-leb (p .«begin_octets») 255 (sound .begin-short), le-leb (p .«later_capacity») 255 (sound .later-short))
+      simp (lt-ltb i (p .count) h, le-leb i 255 (omega arith), le-leb (p .«begin_octets») 255 (sound .begin-short), le-leb (p .«later_capacity») 255 (sound .later-short), le-leb (partStart p i) (p .«message_octets») (omega (arith, part-within i h)))
 
   pub part-short : (i : ℕ) → partLength p i ≤ 255
   part-short zero = omega arith

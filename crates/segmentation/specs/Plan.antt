@@ -154,9 +154,9 @@ plannedHead p i =
       «segment_data_length» = partLength p i;
     }
 
--- a record has segment i when i is below its count and its capacities are those of segments
+-- a record has segment i when i is below its count, its capacities are those of segments, and the segment begins within the message
 abbrev pub hasSegment : SegmentedMessage → ℕ → Bool
-hasSegment p i = ltb i (p .count) && leb i 255 && leb (p .«begin_octets») 255 && leb (p .«later_capacity») 255
+hasSegment p i = ltb i (p .count) && leb i 255 && leb (p .«begin_octets») 255 && leb (p .«later_capacity») 255 && leb (partStart p i) (p .«message_octets»)
 
 -- what the tests of hasSegment leave, for the code's sums
 pub record SegmentSized (p : SegmentedMessage) (i : ℕ) : Type 0 where

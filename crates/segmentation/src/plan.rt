@@ -277,7 +277,7 @@ impl SegmentedMessage {
         }
     }
 
-    // Segment i of any record: none past the count, or where a capacity passes that of a segment.
+    // Segment i of any record: none past the count, where a capacity passes that of a segment, or where its data would begin past the message.
     pub fn segment(self, index: usize) -> PlannedSegment
         ensures { λ r. ⌜ r ≡ segmentAt self index ⌝ }
     {
@@ -293,6 +293,10 @@ impl SegmentedMessage {
         if MAX_SEGMENT_DATA_OCTETS < self.later_capacity {
             return PlannedSegment::NoSegment;
         }
+        let offset = self.part_start(index);
+        if self.message_octets < offset {
+            return PlannedSegment::NoSegment;
+        }
         let segment = Segment {
             transaction_id: self.transaction_id,
             sequence_number: index as u8,
@@ -302,9 +306,6 @@ impl SegmentedMessage {
             segment,
             segment_data_length: self.part_length(index),
         };
-        PlannedSegment::Segment(PlannedPart {
-            head,
-            offset: self.part_start(index),
-        })
+        PlannedSegment::Segment(PlannedPart { head, offset })
     }
 }

@@ -1,7 +1,7 @@
 -- `SegmentedMessage::segment` meets its contract: each test is one of hasSegment. Assumes nothing.
 use native.Mathlib.Omega.{arith}
 use borrow.Author.Tests.{lt-ltb, le-ltb, le-leb, lt-leb}
-use Rattle.segmentation.specs.Plan.{segmentAt}
+use Rattle.segmentation.specs.Plan.{segmentAt, partStart}
 use borrow.Author.Needs.{needs}
 use Rattle.segmentation.proofs.SegmentedMessage.segment.Statement.{statement}
 use Rattle.segmentation.proofs.SegmentedMessage.segment.Tie as tie
@@ -23,8 +23,17 @@ unfolding segmentAt
 returns-4 c =
     simp (lt-ltb _ _ (c .before .before .before .before .before .if1 .left), le-leb (c .before .before .before .before .before .before .before .args .index) 255 (omega arith), le-leb _ _ (c .before .before .if3 .left), lt-leb _ _ (c .if4 .taken))
 
-cast-t6 : tie.Need-cast-t6
-cast-t6 c = search needs
+part-start-requires : tie.Need-part-start-requires
+part-start-requires c κs = search needs
+
+returns-5 : tie.Need-returns-5
+unfolding segmentAt
+returns-5 c =
+    let x = c .before .before .before .before .before .before .before .before .before .before .args in
+    simp (lt-ltb _ _ (c .before .before .before .before .before .before .before .before .if1 .left), le-leb (c .before .before .before .before .before .before .before .before .before .before .args .index) 255 (omega arith), le-leb _ _ (c .before .before .before .before .before .if3 .left), le-leb _ _ (c .before .before .before .if4 .left), lt-leb (partStart (x .self) (x .index)) (x .self .«message_octets») (omega (arith, c .before .before .part-start .ensures, c .if5 .taken)))
+
+cast-t7 : tie.Need-cast-t7
+cast-t7 c = search needs
 
 planned-kind-requires : tie.Need-planned-kind-requires
 planned-kind-requires c κs = search needs
@@ -32,13 +41,11 @@ planned-kind-requires c κs = search needs
 part-length-requires : tie.Need-part-length-requires
 part-length-requires c κs = search needs
 
-part-start-requires : tie.Need-part-start-requires
-part-start-requires c κs = search needs
-
-returns-5 : tie.Need-returns-5
+returns-6 : tie.Need-returns-6
 unfolding segmentAt
-returns-5 c =
-    simp (lt-ltb _ _ (c .before .before .before .before .before .before .before .before .if1 .left), le-leb (c .before .before .before .before .before .before .before .before .before .before .args .index) 255 (omega arith), le-leb _ _ (c .before .before .before .before .before .if3 .left), le-leb _ _ (c .before .before .before .if4 .left), c .before .before .planned-kind .ensures, c .before .part-length .ensures, c .part-start .ensures)
+returns-6 c =
+    let x = c .before .before .before .before .before .before .before .before .before .before .before .before .args in
+    simp (lt-ltb _ _ (c .before .before .before .before .before .before .before .before .before .before .if1 .left), le-leb (c .before .before .before .before .before .before .before .before .before .before .before .before .args .index) 255 (omega arith), le-leb _ _ (c .before .before .before .before .before .before .before .if3 .left), le-leb _ _ (c .before .before .before .before .before .if4 .left), le-leb (partStart (x .self) (x .index)) (x .self .«message_octets») (omega (arith, c .before .before .before .before .part-start .ensures, c .before .before .if5 .left)), c .before .planned-kind .ensures, c .part-length .ensures, c .before .before .before .before .part-start .ensures)
 
 pub segment-spec : {M : Type 1} → statement M
 segment-spec =
@@ -48,8 +55,9 @@ segment-spec =
     returns-2
     returns-3
     returns-4
-    cast-t6
+    part-start-requires
+    returns-5
+    cast-t7
     planned-kind-requires
     part-length-requires
-    part-start-requires
-    returns-5)
+    returns-6)
