@@ -26,7 +26,7 @@ use Rattle.tsar.specs.Layout.{whole, written, bitsOf, bits, octetsOf, fieldsWit
 use Rattle.tsar.specs.Reading.{Decoded, decoded, refused, segmentOf, segmentAs, servicesOf, stepOf, runParams, compressionOf, windowOf, statusOf}
 use Rattle.tsar.specs.Writing.{Written, wrote, encodeOf}
 use Rattle.tsar.proofs.OneOctet.{p10-begin}
-use Rattle.segmentation.specs.Plan.{Planning, unsegmented, refused as planRefused, segmented, planMessage, planOf, segmentCount, segmentAt, partLength}
+use Rattle.segmentation.specs.Plan.{Planning, unsegmented, refused as planRefused, segmented, planMessage, planOf, segmentCount, segmentAt}
 use Rattle.segmentation.specs.declared.SegmentedMessage.{SegmentedMessage}
 use Rattle.response.specs.declared.Status.the-variants.{Aborted}
 use Rattle.receiver.specs.declared.ReceiverState.{ReceiverState}
@@ -60,10 +60,11 @@ unfoldable pub upTo : ℕ → (ℕ → ℕ) → List ℕ
 upTo zero f = []
 upTo (suc n) f = f 0 ∷ upTo n (λ i. f (suc i))
 
-abbrev dataLengths : Planning → List ℕ
-dataLengths unsegmented = []
-dataLengths (planRefused n) = []
-dataLengths (segmented p) = upTo (p .count) (partLength p)
+-- of the segments that the plan's public call gives, with their data out of the message
+abbrev dataLengths : Planning → List ℕ → List ℕ
+dataLengths unsegmented m = []
+dataLengths (planRefused n) m = []
+dataLengths (segmented p) m = upTo (p .count) (λ i. length (trainOf p m i .«segment_data»))
 
 abbrev beginOctets : Planning → List ℕ → List ℕ
 beginOctets unsegmented m = []
@@ -99,7 +100,7 @@ receiveAll r store (x ∷ xs) =
 unfoldable pub given : Case → Case
 given (reads l d) = reads l (segmentOf 1 l)
 given (writes s l n w) = writes s l n (encodeOf 1 s l (replicate n 0xa5))
-given (cuts m budget ls os) = cuts m budget (dataLengths (planning m budget)) (beginOctets (planning m budget) m)
+given (cuts m budget ls os) = cuts m budget (dataLengths (planning m budget) m) (beginOctets (planning m budget) m)
 given (makes m budget n r) = makes m budget (countIn (planning m budget)) (refusalIn (planning m budget))
 given (receives xs ys) = receives xs (receiveAll (tryNewOf terms 0 .receiver) (replicate 65280 0xa5) xs)
 

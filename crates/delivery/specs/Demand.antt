@@ -23,7 +23,8 @@ use Rattle.delivery.specs.Delivery.{Brings, DeliveryConditions, HandsOve
 abbrev pub stepAfter : StepFunction → Left → Call → Step
 stepAfter step w c = step (w .receiver) (w .store) c
 
--- for every list of calls on a receiver that try_new gave and a store, refused ones included, whatever they bring
+-- for every list of calls on a receiver that try_new gave and a store, refused ones included, whatever they bring.
+-- The only hypothesis is AllFitTypes: the calls' arguments fit their types, that is, each sequence number is an octet
 abbrev pub FirstHalf : TryNewFunction → StepFunction → Type 0
 FirstHalf new step =
     (t : Terms) (made : ℕ) → new t made .refused ≡ none
@@ -55,7 +56,7 @@ pub record Demand3 (interval : ℕ) (new : TryNewFunction) (step : StepFunction)
   pub first-half : FirstHalf new step
   pub second-half : SecondHalf interval new step
 
--- no call of any list is refused with 62
+-- no call of any list is refused with 62, under the same hypothesis
 abbrev pub NoneRefusedWith62 : TryNewFunction → StepFunction → Type 0
 NoneRefusedWith62 new step =
     (t : Terms) (made : ℕ) → new t made .refused ≡ none
