@@ -1,4 +1,5 @@
 pub mod Capacity
+pub mod Encoded
 pub mod Parts
 pub mod Placing
 pub mod Turns

@@ -85,11 +85,21 @@ accepted : (o : Option Refusal) (l out : List ℕ) (n : ℕ) → afterTests o l 
 accepted (some r) l out n e = let z : _≡_ {A = ℕ} 0 1 = cc in absurd (omega arith)
 accepted none l out n e = (refl, cc)
 
--- where writing answers a number of octets, they are 3 to 264
+-- where writing answers a number, it is that of the header octets and of the data
+pub wrote-count : (v : ℕ) (s : Segment) (l out : List ℕ) (n : ℕ) → encodeOf v s l out .answer ≡ wrote n → n ≡ headerOctets (s .kind) + length l
+unfolding encodeOf
+wrote-count v s l out n e = accepted (refusal (encodeRows v s l out)) (written (whole s l)) out n e .1 ∙ written-count (whole s l)
+
+-- and it answers that number where no test holds
+pub wrote-all : (v : ℕ) (s : Segment) (l out : List ℕ) → refusal (encodeRows v s l out) ≡ none → encodeOf v s l out .answer ≡ wrote (headerOctets (s .kind) + length l)
+unfolding encodeOf
+wrote-all v s l out e = ap (λ (o : Option Refusal). afterTests o (written (whole s l)) out .answer) e ∙ ap wrote (written-count (whole s l))
+
+-- which is 3 to 264
 pub wrote-bounds : (v : ℕ) (s : Segment) (l out : List ℕ) (n : ℕ) → encodeOf v s l out .answer ≡ wrote n → (3 ≤ n) × (n ≤ 264)
 unfolding encodeOf
 wrote-bounds v s l out n e =
     let a = accepted (refusal (encodeRows v s l out)) (written (whole s l)) out n e in
     let short : length l ≤ 255 = ltb-false 255 (length l) (refusal-none (encodeRows v s l out) (a .0) 2) in
-    let c = written-count (whole s l) in
-    (omega (arith, a .1, c, header-least (s .kind)), omega (arith, a .1, c, short, header-most (s .kind)))
+    let c = wrote-count v s l out n e in
+    (omega (arith, c, header-least (s .kind)), omega (arith, c, short, header-most (s .kind)))
