@@ -111,6 +111,8 @@ error('p06 the ceiling tested after Unsegmented', P, '''    if ceiling < payload
     }''')
 error('p07 the last segment is a Continue', P, 'if index + 1 == self.count {', 'if index == self.count {')
 error('p08 offsets of equal segments', P, 'self.begin_octets + (index - 1) * self.later_capacity', 'index * self.later_capacity')
+error('p09 a segment that begins past the message', P, 'if self.message_octets < offset {', 'if self.count < index {')
+error('p10 no segment at the end of the message', P, 'if self.message_octets < offset {', 'if self.message_octets <= offset {')
 
 # ---- frozen check
 F = 'segmentation/src/frozen.rt'

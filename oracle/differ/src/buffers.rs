@@ -2,16 +2,16 @@
 //! no record. (Records of receivers and senders are damaged where lists of calls run.)
 
 use crate::codec;
-use crate::spell::{self, FILLING, filled};
+use crate::spell::{self, filled};
 use crate::spells;
-use crate::table::{Area, Table};
+use crate::table::{Area, PAST_MESSAGE, Table};
 use crate::watch::{Checked, same, same_given};
 use bts136::l3::tsar::{Segment, SegmentKind};
 use catkhize::{calls, layout};
 use record::fields::take_head;
 use record::make::frozen::any_cutting;
 use record::make::heads::any_segment;
-use record::octets::Take;
+use record::octets::{Put, Take};
 use record::play::plan::{Frozen, Head, Wanted};
 use record::random::Random;
 
@@ -148,6 +148,9 @@ fn planner(area: &mut Area, random: &mut Random) -> Checked {
         same_given(found, NAMES_NONE)?;
         same("plan", &lent, &filled(layout::PLAN))?;
     }
+    for _ in 0..MADE_UP {
+        made_up_plan(area, random, &plan)?;
+    }
     let (given, other) = port_frozen(&any_cutting(random));
     same_given(given, 0)?;
     for plan in [plan, other] {
@@ -158,7 +161,7 @@ fn planner(area: &mut Area, random: &mut Random) -> Checked {
     Ok(())
 }
 
-/// A plan with an octet changed. Segment i of a plan that no call gives is ours to define, so only 81 is compared.
+/// A plan with an octet changed: it spells none, or has the segments that `spells` reads.
 fn changed_plan(area: &mut Area, random: &mut Random, plan: &[u8]) -> Checked {
     let mut plan = plan.to_vec();
     let at = match random.below(3) {
@@ -170,19 +173,74 @@ fn changed_plan(area: &mut Area, random: &mut Random, plan: &[u8]) -> Checked {
     } else {
         random.below(8) as u8
     };
-    let before = plan.clone();
-    let mut answer = filled(layout::PART);
-    let found = calls::plan_segment(&plan, random.octet(), &mut answer);
-    area.count(found);
-    let named = |what: String| format!("a plan with octet {at} changed to {}: {what}", before[at]);
-    if spells::plan(&plan) {
-        if found > 1 {
-            return same_given(found, 1).map_err(named);
-        }
-        return Ok(());
+    let index = if random.once_in(2) {
+        random.octet()
+    } else {
+        random.below(8) as u8
+    };
+    let named = |what| format!("a plan with octet {at} changed to {}: {what}", plan[at]);
+    part_of(area, &plan, index).map_err(named)
+}
+
+/// Where the numbers of a planned PLAN stand.
+const MESSAGE_OCTETS: usize = 2;
+const BEGIN_OCTETS: usize = 20;
+const LATER_CAPACITY: usize = 28;
+const COUNT: usize = 36;
+
+/// How many plans are made up.
+const MADE_UP: usize = 2_000;
+
+/// A planned one of any sizes and count, of a message that ends around the place where the segment asked for would begin.
+fn made_up_plan(area: &mut Area, random: &mut Random, plan: &[u8]) -> Checked {
+    let any_index = random.octet();
+    let index = random.pick(&[0, 1, 2, 254, 255, any_index]);
+    let next = u64::from(index);
+    let count = random.pick(&[next, next + 1, next + 2, 256, 257, u64::MAX]);
+    let mut capacity = || random.pick(&[0, 1, 2, 254, 255, 255, 255, 256, u64::MAX]);
+    let (begin, later) = (capacity(), capacity());
+    let start = match next.checked_sub(1) {
+        None => 0,
+        Some(before) => begin.saturating_add(before.saturating_mul(later)),
+    };
+    let around = [start.saturating_sub(1), start, start.saturating_add(1)];
+    let message = random.pick(&[0, around[0], around[1], around[2], 65_280, u64::MAX]);
+    let mut plan = plan.to_vec();
+    let mut put = |at: usize, value: u64| plan[at..at + 8].copy_from_slice(&value.to_be_bytes());
+    put(MESSAGE_OCTETS, message);
+    put(BEGIN_OCTETS, begin);
+    put(LATER_CAPACITY, later);
+    put(COUNT, count);
+    let mut longer = plan.clone();
+    longer[MESSAGE_OCTETS..MESSAGE_OCTETS + 8].fill(u8::MAX);
+    if spells::part(&plan, index).is_none() && spells::part(&longer, index).is_some() {
+        area.input(PAST_MESSAGE);
     }
-    same_given(found, SPELLS_NONE).map_err(named)?;
-    same("answer", &answer, &[FILLING; layout::PART])
+    let named = |what| {
+        format!("segment {index} of {count}, {begin} and {later} octets, of {message}: {what}")
+    };
+    part_of(area, &plan, index).map_err(named)
+}
+
+/// Segment `index` of a plan, whoever made it. Of a segment that is given, its data's number and place are compared.
+fn part_of(area: &mut Area, plan: &[u8], index: u8) -> Checked {
+    let mut answer = filled(layout::PART);
+    let found = calls::plan_segment(plan, index, &mut answer);
+    area.count(found);
+    let spelled = spells::plan(plan);
+    match spelled.then(|| spells::part(plan, index)).flatten() {
+        None => {
+            same_given(found, if spelled { 1 } else { SPELLS_NONE })?;
+            same("answer", &answer, &filled(layout::PART))
+        }
+        Some(part) => {
+            same_given(found, 0)?;
+            let mut place = Vec::new();
+            place.put64(part.octets);
+            place.put64(part.offset);
+            same("data", &answer[layout::SEGMENT..], &place)
+        }
+    }
 }
 
 fn frozen(area: &mut Area, random: &mut Random) -> Checked {

@@ -119,6 +119,59 @@ pub fn plan(octets: &[u8]) -> bool {
     octets[0] == layout::LAYOUT_VERSION && plan_after_version(&octets[1..])
 }
 
+/// The data octets of a segment at the most.
+const MOST_DATA: u64 = 255;
+
+/// Where the data of a segment lie in the message.
+pub struct Part {
+    pub octets: u64,
+    pub offset: u64,
+}
+
+/// Segment `index` of a PLAN, whoever made it. There is none at or past the count; nor in a planned one where a capacity passes that of a
+/// segment, or where it would begin past the message; nor in a frozen one where its data would end past the message.
+pub fn part(octets: &[u8], index: u8) -> Option<Part> {
+    let mut take = Take(&octets[1..]);
+    let frozen = take.flag();
+    let mut planned = Take(take.octets(43));
+    if frozen {
+        let (count, message) = (take.take64(), take.take64());
+        take.octets(9);
+        return frozen_part(take, index).filter(|part| {
+            let end = part.offset.checked_add(part.octets);
+            u64::from(index) < count && end.is_some_and(|end| end <= message)
+        });
+    }
+    let message = planned.take64();
+    planned.octets(10);
+    let [begin, later, count] = [planned.take64(), planned.take64(), planned.take64()];
+    let index = u64::from(index);
+    if index >= count || begin > MOST_DATA || later > MOST_DATA {
+        return None;
+    }
+    let (capacity, offset) = match index.checked_sub(1) {
+        None => (begin, 0),
+        Some(before) => (later, begin + before * later),
+    };
+    let left = message.checked_sub(offset)?;
+    let octets = capacity.min(left);
+    Some(Part { octets, offset })
+}
+
+/// By the heads alone; none where the data before it pass 2^64.
+fn frozen_part(mut heads: Take, index: u8) -> Option<Part> {
+    let mut length = || {
+        heads.octets(layout::SEGMENT);
+        heads.take64()
+    };
+    let mut offset = 0u64;
+    for _ in 0..index {
+        offset = offset.checked_add(length())?;
+    }
+    let octets = length();
+    Some(Part { octets, offset })
+}
+
 /// A STATE.
 fn state(octets: &[u8]) -> bool {
     match octets {

@@ -163,8 +163,10 @@ pub const LONG_STORE: &str = "calls on A5 stores with octets past 65,280";
 pub const WIPED: &str = "stores wiped";
 pub const FROZEN_SENDER: &str = "senders of frozen plans";
 pub const FULL_SENDER: &str = "senders of 256 segments";
+pub const PAST_MESSAGE: &str = "segments of made-up plans that would begin past the message";
 
-const INPUTS: [(&str, &str); 9] = [
+const INPUTS: [(&str, &str); 10] = [
+    ("planner", PAST_MESSAGE),
     ("receiver", FULL_TRAIN),
     ("receiver", LATE_RECEPTION),
     ("receiver", FULL_MAP),

@@ -47,6 +47,12 @@ fn part(plan: &[u8], index: usize) -> (u32, Vec<u8>) {
     (given, answer)
 }
 
+/// PART: a segment, its data octets, and where they begin in the message.
+fn part_octets(segment: Segment, data: u64, offset: u64) -> Vec<u8> {
+    let part = [&head(segment, data)[..], &offset.to_be_bytes()].concat();
+    at_front(&part, layout::PART + PAST)
+}
+
 /// The first index whose segment is not the head there, with its data after those before it; past the heads there is no segment.
 fn wrong_part(plan: &[u8], heads: Heads) -> Option<usize> {
     let mut offset = 0;
@@ -54,10 +60,9 @@ fn wrong_part(plan: &[u8], heads: Heads) -> Option<usize> {
         let wanted = match heads.get(*index) {
             None => (1, filled(layout::PART + PAST)),
             Some((segment, data)) => {
-                let place = u64::to_be_bytes(offset);
-                let part = [&head(*segment, *data)[..], &place].concat();
+                let part = part_octets(*segment, *data, offset);
                 offset += data;
-                (0, at_front(&part, layout::PART + PAST))
+                (0, part)
             }
         };
         part(plan, *index) != wanted

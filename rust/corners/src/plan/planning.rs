@@ -1,7 +1,7 @@
 //! The planner: document 01's corners and the boundary of each refusal. A plan's record is compared whole; its segments, one after
 //! another, have to be the message, each is written and read back, and the frozen check takes them.
 
-use super::{Heads, frozen_plan, proposed, wrong_part};
+use super::{Heads, frozen_plan, part, part_octets, proposed, wrong_part};
 use crate::octets::{
     PAST, Segment, at_front, begin, difference, end, filled, head, later, pattern, refusal, window,
 };
@@ -290,6 +290,57 @@ fn largest(g: &mut Group) {
     plans(g, 65_278, ask(258, Last), Cut(256, 253, 255, false));
 }
 
+/// A segment, its data octets, and where they begin in the message.
+struct Part(Segment, u64, u64);
+
+/// Segment `index` of a plan that is cut so and said to be of so many octets: the segment, its data octets and where they begin, or none.
+fn hand_made(g: &mut Group, octets: usize, cut: Cut, index: u8, wanted: Option<Part>) {
+    let asked = ask(258, Prohibited);
+    let plan = asked.record(octets, cut);
+    let wanted = match wanted {
+        None => (1, filled(layout::PART + PAST)),
+        Some(Part(segment, data, offset)) => (0, part_octets(segment, data, offset)),
+    };
+    g.case(part(&plan, usize::from(index)), wanted);
+}
+
+/// A record that no planner gives has segment i where i is below its count, no capacity passes 255, and the segment begins within the
+/// message: at its end still, with no data.
+fn hand_made_segments(g: &mut Group) {
+    let full = Cut(256, 255, 255, false);
+    let last = |data, offset| Some(Part(end(5, 255, None, None), data, offset));
+    hand_made(g, 0, full, 255, None);
+    hand_made(g, 65_024, full, 255, None);
+    hand_made(g, 65_025, full, 255, last(0, 65_025));
+    hand_made(g, 65_026, full, 255, last(1, 65_025));
+    hand_made(g, 65_280, full, 255, last(255, 65_025));
+    hand_made(g, 65_281, full, 255, last(255, 65_025));
+
+    let first = |data| Some(Part(begin(5, None, None), data, 0));
+    hand_made(g, 0, full, 0, first(0));
+    hand_made(g, 1, full, 0, first(1));
+    hand_made(g, 0, full, 1, None);
+    hand_made(g, 0, Cut(256, 0, 0, false), 255, last(0, 0));
+
+    let three = Cut(3, 2, 3, false);
+    let second = |data, offset| Some(Part(later(5, 1, None), data, offset));
+    let third = |data, offset| Some(Part(end(5, 2, None, None), data, offset));
+    hand_made(g, 1, three, 1, None);
+    hand_made(g, 2, three, 1, second(0, 2));
+    hand_made(g, 3, three, 1, second(1, 2));
+    hand_made(g, 4, three, 2, None);
+    hand_made(g, 5, three, 2, third(0, 5));
+    hand_made(g, 6, three, 2, third(1, 5));
+    hand_made(g, 100, three, 3, None);
+
+    hand_made(g, 1_000, Cut(3, 256, 3, false), 0, None);
+    hand_made(g, 1_000, Cut(3, 2, 256, false), 0, None);
+    hand_made(g, 1_000, Cut(3, 255, 255, false), 2, third(255, 510));
+    hand_made(g, 1_000, Cut(0, 2, 3, false), 0, None);
+    let more = Some(Part(later(5, 255, None), 0, 65_025));
+    hand_made(g, 65_025, Cut(257, 255, 255, false), 255, more);
+}
+
 pub fn corners(tally: &mut Tally) {
     tally.group("planning: P10 to P12", marked);
     tally.group("planning: P10's Begin, for each first octet", every_begin);
@@ -306,4 +357,8 @@ pub fn corners(tally: &mut Tally) {
     );
     tally.group("planning: lengths that are stated", stated_lengths);
     tally.group("planning: 255 octets and 256 segments", largest);
+    tally.group(
+        "planning: segments of plans made by hand",
+        hand_made_segments,
+    );
 }
