@@ -9,7 +9,8 @@
  *
  * Rules for the caller. The library cannot check them.
  *  - No pointer is NULL, also where its number of octets is 0.
- *  - The buffers of one call do not overlap: record, store, output, plan, answer and whatever is read.
+ *  - A buffer that a call writes overlaps no other buffer of that call. Buffers that it only reads (const)
+ *    may overlap one another.
  *  - Nothing else writes to a call's buffers while it runs.
  *  - The calls keep whole records on the stack. CATKHIZE_STACK_OCTETS says how much to set aside.
  *
@@ -38,62 +39,64 @@ extern "C" {
 /* No refusal either: nothing to plan, no such segment, nothing offered. The answer is as it was. */
 #define CATKHIZE_NOTHING 1u
 
-/* Refusal n/m of document 01; m is 0 where the paper has none. */
+/* Refusal n/m: of document 01 where n is below 256, else of these calls alone. m is 0 where there is none. */
 #define CATKHIZE_REFUSAL(n, m) (256u * (n) + (m))
 #define CATKHIZE_IS_REFUSAL(given) ((given) >= 256u)
 #define CATKHIZE_REFUSAL_N(given) ((given) / 256u)
 #define CATKHIZE_REFUSAL_M(given) ((given) % 256u)
+/* A refusal of these calls alone: the last three below. */
+#define CATKHIZE_IS_OWN_REFUSAL(given) (CATKHIZE_REFUSAL_N(given) >= 256u)
 
 /* The codec's refusals. */
-#define CATKHIZE_VERSION CATKHIZE_REFUSAL(1, 0)
-#define CATKHIZE_TRUNCATED CATKHIZE_REFUSAL(2, 0)
-#define CATKHIZE_PROTOCOL CATKHIZE_REFUSAL(3, 0)
-#define CATKHIZE_MESSAGE_TYPE CATKHIZE_REFUSAL(4, 0)
-#define CATKHIZE_UNSUPPORTED_RESPONSE CATKHIZE_REFUSAL(5, 0)
-#define CATKHIZE_FIELD_TRANSACTION_ID CATKHIZE_REFUSAL(6, 1)
-#define CATKHIZE_FIELD_SEGMENT_DATA_LENGTH CATKHIZE_REFUSAL(6, 2)
-#define CATKHIZE_FIELD_BEGIN_SEQUENCE_NUMBER CATKHIZE_REFUSAL(6, 3)
-#define CATKHIZE_FIELD_MESSAGE_LENGTH CATKHIZE_REFUSAL(6, 4)
-#define CATKHIZE_FIELD_CRC24 CATKHIZE_REFUSAL(6, 5)
-#define CATKHIZE_FIELD_ACKNOWLEDGMENT_MAP_LENGTH CATKHIZE_REFUSAL(6, 6)
-#define CATKHIZE_FIELD_SUPPORT_STATUS CATKHIZE_REFUSAL(6, 7)
-#define CATKHIZE_RESERVED CATKHIZE_REFUSAL(7, 0)
-#define CATKHIZE_DUPLICATE_PARAMETER CATKHIZE_REFUSAL(8, 0)
+#define CATKHIZE_REFUSED_VERSION CATKHIZE_REFUSAL(1, 0)
+#define CATKHIZE_REFUSED_TRUNCATED CATKHIZE_REFUSAL(2, 0)
+#define CATKHIZE_REFUSED_PROTOCOL CATKHIZE_REFUSAL(3, 0)
+#define CATKHIZE_REFUSED_MESSAGE_TYPE CATKHIZE_REFUSAL(4, 0)
+#define CATKHIZE_REFUSED_UNSUPPORTED_RESPONSE CATKHIZE_REFUSAL(5, 0)
+#define CATKHIZE_REFUSED_FIELD_TRANSACTION_ID CATKHIZE_REFUSAL(6, 1)
+#define CATKHIZE_REFUSED_FIELD_SEGMENT_DATA_LENGTH CATKHIZE_REFUSAL(6, 2)
+#define CATKHIZE_REFUSED_FIELD_BEGIN_SEQUENCE_NUMBER CATKHIZE_REFUSAL(6, 3)
+#define CATKHIZE_REFUSED_FIELD_MESSAGE_LENGTH CATKHIZE_REFUSAL(6, 4)
+#define CATKHIZE_REFUSED_FIELD_CRC24 CATKHIZE_REFUSAL(6, 5)
+#define CATKHIZE_REFUSED_FIELD_ACKNOWLEDGMENT_MAP_LENGTH CATKHIZE_REFUSAL(6, 6)
+#define CATKHIZE_REFUSED_FIELD_SUPPORT_STATUS CATKHIZE_REFUSAL(6, 7)
+#define CATKHIZE_REFUSED_RESERVED CATKHIZE_REFUSAL(7, 0)
+#define CATKHIZE_REFUSED_DUPLICATE_PARAMETER CATKHIZE_REFUSAL(8, 0)
 /* The planner's and the frozen check's. */
-#define CATKHIZE_PAYLOAD_BUDGET CATKHIZE_REFUSAL(20, 0)
-#define CATKHIZE_HEADER_CAPACITY CATKHIZE_REFUSAL(21, 0)
-#define CATKHIZE_SEGMENT_COUNT CATKHIZE_REFUSAL(22, 0)
-#define CATKHIZE_FROZEN_PLAN CATKHIZE_REFUSAL(23, 0)
-#define CATKHIZE_JOINED_LENGTH CATKHIZE_REFUSAL(24, 0)
+#define CATKHIZE_REFUSED_PAYLOAD_BUDGET CATKHIZE_REFUSAL(20, 0)
+#define CATKHIZE_REFUSED_HEADER_CAPACITY CATKHIZE_REFUSAL(21, 0)
+#define CATKHIZE_REFUSED_SEGMENT_COUNT CATKHIZE_REFUSAL(22, 0)
+#define CATKHIZE_REFUSED_FROZEN_PLAN CATKHIZE_REFUSAL(23, 0)
+#define CATKHIZE_REFUSED_JOINED_LENGTH CATKHIZE_REFUSAL(24, 0)
 /* The machines'. */
-#define CATKHIZE_IDENTITY CATKHIZE_REFUSAL(30, 0)
-#define CATKHIZE_SERVICE CATKHIZE_REFUSAL(31, 0)
-#define CATKHIZE_TRANSACTION_ID CATKHIZE_REFUSAL(32, 0)
-#define CATKHIZE_CLOCK_REGRESSION CATKHIZE_REFUSAL(33, 0)
-#define CATKHIZE_TIME_OVERFLOW CATKHIZE_REFUSAL(34, 0)
-#define CATKHIZE_UNPARSED_SEGMENT CATKHIZE_REFUSAL(35, 0)
-#define CATKHIZE_BEGIN_REQUIRED CATKHIZE_REFUSAL(36, 0)
-#define CATKHIZE_TIMER_DUE CATKHIZE_REFUSAL(37, 0)
-#define CATKHIZE_CLOSED CATKHIZE_REFUSAL(38, 0)
-#define CATKHIZE_PLAN CATKHIZE_REFUSAL(40, 0)
-#define CATKHIZE_COUNTER_OVERFLOW CATKHIZE_REFUSAL(41, 0)
-#define CATKHIZE_STALE_SUBMISSION CATKHIZE_REFUSAL(42, 0)
-#define CATKHIZE_NOT_SUBMITTED CATKHIZE_REFUSAL(43, 0)
-#define CATKHIZE_RECEIPT_TIME CATKHIZE_REFUSAL(44, 0)
-#define CATKHIZE_PEER CATKHIZE_REFUSAL(45, 0)
-#define CATKHIZE_RESPONSES_PROHIBITED CATKHIZE_REFUSAL(46, 0)
-#define CATKHIZE_UNPARSED_RESPONSE CATKHIZE_REFUSAL(47, 0)
-#define CATKHIZE_UNSUBMITTED_ACKNOWLEDGMENT CATKHIZE_REFUSAL(48, 0)
-#define CATKHIZE_CONTRADICTORY_RECEIPT CATKHIZE_REFUSAL(49, 0)
+#define CATKHIZE_REFUSED_IDENTITY CATKHIZE_REFUSAL(30, 0)
+#define CATKHIZE_REFUSED_SERVICE CATKHIZE_REFUSAL(31, 0)
+#define CATKHIZE_REFUSED_TRANSACTION_ID CATKHIZE_REFUSAL(32, 0)
+#define CATKHIZE_REFUSED_CLOCK_REGRESSION CATKHIZE_REFUSAL(33, 0)
+#define CATKHIZE_REFUSED_TIME_OVERFLOW CATKHIZE_REFUSAL(34, 0)
+#define CATKHIZE_REFUSED_UNPARSED_SEGMENT CATKHIZE_REFUSAL(35, 0)
+#define CATKHIZE_REFUSED_BEGIN_REQUIRED CATKHIZE_REFUSAL(36, 0)
+#define CATKHIZE_REFUSED_TIMER_DUE CATKHIZE_REFUSAL(37, 0)
+#define CATKHIZE_REFUSED_CLOSED CATKHIZE_REFUSAL(38, 0)
+#define CATKHIZE_REFUSED_PLAN CATKHIZE_REFUSAL(40, 0)
+#define CATKHIZE_REFUSED_COUNTER_OVERFLOW CATKHIZE_REFUSAL(41, 0)
+#define CATKHIZE_REFUSED_STALE_SUBMISSION CATKHIZE_REFUSAL(42, 0)
+#define CATKHIZE_REFUSED_NOT_SUBMITTED CATKHIZE_REFUSAL(43, 0)
+#define CATKHIZE_REFUSED_RECEIPT_TIME CATKHIZE_REFUSAL(44, 0)
+#define CATKHIZE_REFUSED_PEER CATKHIZE_REFUSAL(45, 0)
+#define CATKHIZE_REFUSED_RESPONSES_PROHIBITED CATKHIZE_REFUSAL(46, 0)
+#define CATKHIZE_REFUSED_UNPARSED_RESPONSE CATKHIZE_REFUSAL(47, 0)
+#define CATKHIZE_REFUSED_UNSUBMITTED_ACKNOWLEDGMENT CATKHIZE_REFUSAL(48, 0)
+#define CATKHIZE_REFUSED_CONTRADICTORY_RECEIPT CATKHIZE_REFUSAL(49, 0)
 /* Of lent buffers and records. */
-#define CATKHIZE_STORE_TOO_SHORT CATKHIZE_REFUSAL(60, 0)
-#define CATKHIZE_OUTPUT_TOO_SHORT CATKHIZE_REFUSAL(61, 0)
-#define CATKHIZE_IMPOSSIBLE_STATE CATKHIZE_REFUSAL(62, 0)
-#define CATKHIZE_TICKETS CATKHIZE_REFUSAL(63, 0)
+#define CATKHIZE_REFUSED_STORE_TOO_SHORT CATKHIZE_REFUSAL(60, 0)
+#define CATKHIZE_REFUSED_OUTPUT_TOO_SHORT CATKHIZE_REFUSAL(61, 0)
+#define CATKHIZE_REFUSED_IMPOSSIBLE_STATE CATKHIZE_REFUSAL(62, 0)
+#define CATKHIZE_REFUSED_TICKETS CATKHIZE_REFUSAL(63, 0)
 /* Of these calls alone, in this order and before any of document 01's; nothing is changed. */
-#define CATKHIZE_BUFFER_TOO_SHORT CATKHIZE_REFUSAL(80, 0) /* a buffer with a layout is shorter than it */
-#define CATKHIZE_BUFFER_SPELLS_NONE CATKHIZE_REFUSAL(81, 0) /* such a buffer that is read spells nothing */
-#define CATKHIZE_NUMBER_NAMES_NONE CATKHIZE_REFUSAL(82, 0) /* window above 5, protocol or failure above 2 */
+#define CATKHIZE_REFUSED_BUFFER_TOO_SHORT CATKHIZE_REFUSAL(256, 0) /* a buffer with a layout is shorter than it */
+#define CATKHIZE_REFUSED_BUFFER_SPELLS_NONE CATKHIZE_REFUSAL(257, 0) /* such a buffer that is read spells nothing */
+#define CATKHIZE_REFUSED_NUMBER_NAMES_NONE CATKHIZE_REFUSAL(258, 0) /* window above 5, protocol or failure above 2 */
 
 /* ---- Sizes ---- */
 
@@ -206,7 +209,8 @@ extern "C" {
 #define CATKHIZE_TRAIN_AT_RECEIVED 0u /* 64 bits */
 #define CATKHIZE_TRAIN_AT_RECEPTION 8u
 
-/* Protocols. Only Segmented, and CarrierSpecific with both top bits of its octet set, are served. */
+/* Protocols. Segmented with any octet is served, CarrierSpecific with both top bits of its octet set, and
+ * no other. */
 #define CATKHIZE_PROTOCOL_SEGMENTED 0u
 #define CATKHIZE_PROTOCOL_CARRIER_SPECIFIC 1u
 #define CATKHIZE_PROTOCOL_OTHER 2u
@@ -245,7 +249,7 @@ extern "C" {
 #define CATKHIZE_RECEIVER_CANCELED 5u
 
 /* PLAN. Planned: capacities from which every segment follows; the frozen part of a plan that plan_message
- * makes is 0, and is not read. Frozen: heads; the planned part is 0. */
+ * makes is 0, and catkhize_sender_new refuses another with 40. Frozen: heads; the planned part is 0. */
 #define CATKHIZE_PLAN_AT_FORM 1u
 #define CATKHIZE_PLAN_AT_MESSAGE_OCTETS 2u /* planned; 64 bits, as all below but where said */
 #define CATKHIZE_PLAN_AT_BUDGET 10u
@@ -354,6 +358,30 @@ static inline int catkhize_entry(const uint8_t *words, unsigned i) {
     return words[8u * (i / 64u) + (7u - i % 64u / 8u)] >> (i % 8u) & 1;
 }
 
+/* ---- Numbers that several calls take ----
+ *
+ * peer_kind, peer_width, peer_value: the peer's mobile identity. The value is the identity itself, the
+ * width its number of bits, the kind what sort of identity it is. A machine is made for a width of at most
+ * 63 and a value above 0 and below 2 to the width: all else is refused with 30. The kind may be any number
+ * and is only compared. A machine takes what comes from its own peer, the same in kind, width and value:
+ * from another it is refused, in catkhize_receiver_receive with 30, in catkhize_sender_receive_response
+ * with 45.
+ *
+ * protocol, protocol_octet: the protocol that the message belongs to, as CATKHIZE_PROTOCOL_.. and its
+ * octet. A protocol above 2 is refused with 258. A machine is made for a protocol that is served (said
+ * there), and takes what comes with the same number and octet: all else is refused with 31.
+ *
+ * version: the protocol version under which segments and responses are written and read. 1 is Pv1, 5 is
+ * Pv5; 0 is refused with 1. From 1 on all are treated alike, but that a response has a support list from 5
+ * on only.
+ *
+ * budget, ceiling: the budget is how many octets one encoded segment may have. The ceiling is the source's
+ * MAX_DATA_PAYLOAD_OCTETS, the most octets that a payload of the layer below has room for: a budget above
+ * it is refused with 20.
+ *
+ * reading: now, in milliseconds of a clock that never falls. A reading below the record's last one is
+ * refused with 33. */
+
 /* ---- Segments ---- */
 
 /* Writes a segment to the first octets of output and their number (3 to 264) to answer. */
@@ -405,10 +433,17 @@ uint32_t catkhize_try_from_frozen(
 /* ---- Receiver ----
  *
  * One record for each transaction that is received, and a store of at least CATKHIZE_STORE_OCTETS that
- * goes with it from call to call. What the store holds before the first call does not matter. Readings
- * are milliseconds of a clock that never falls. A due deadline acts when catkhize_receiver_advance is
- * called: the record's deadline says by when. Failure, expiry and cancelling set the store's first
- * CATKHIZE_STORE_OCTETS octets to 0. */
+ * goes with it from call to call. What the store holds before the first call does not matter. Failure,
+ * expiry and cancelling set the store's first CATKHIZE_STORE_OCTETS octets to 0.
+ *
+ * When to advance. Nothing happens between calls. While a deadline runs (the record's flag and number;
+ * each segment that is taken and leaves the receiver open sets it to 300,000 ms after its reading), call
+ * catkhize_receiver_advance at that reading, or as soon after it as may be: under Prohibited the receiver
+ * expires, under any other window the answer has the response that asks for what is missing, and the
+ * receiver stays open without a deadline until the next segment. Before the deadline advancing only takes
+ * the reading. A segment that comes at the deadline itself is taken if catkhize_receiver_receive is called
+ * first; past the deadline receiving gives 37 and changes nothing (advance, then give the segment again),
+ * or under Prohibited 38, and the receiver has expired. */
 
 /* Writes a new receiver to record. Messages of up to maximum octets are taken. */
 uint32_t catkhize_receiver_new(
@@ -470,7 +505,17 @@ uint32_t catkhize_receiver_train(
  *
  * One record for each transaction that is sent. The message stays with the caller: catkhize_sender_new
  * checks the plan against it, and a submission says which of its octets a segment carries. Give each
- * sender a number of its own: number and ticket together name a submission. */
+ * sender a number of its own: number and ticket together name a submission. So no record is used twice: a
+ * copy of it that is called too offers the same tickets.
+ *
+ * When to advance. While a deadline runs (the record's flag and number; catkhize_sender_submitted sets it
+ * to 330,000 ms after queued; under Prohibited the last segment has none), call catkhize_sender_advance at
+ * that reading, or as soon after it as may be. Under Prohibited the sender then fails; under Exceptions it
+ * completes if all is sent and accepted; in every other case the segment that is not accepted yet, or all
+ * that the peer has not acknowledged (the last segment if that is none), is offered again. Before the
+ * deadline advancing only takes the reading. Cancelling, accepting and failing at or past the deadline let
+ * it act first. So does a response past the deadline; one that comes at the deadline itself is taken, and
+ * the deadline acts after it. */
 
 /* Writes a new sender to record. Its first submission is offered at once. */
 uint32_t catkhize_sender_new(

@@ -75,10 +75,16 @@ static void begin_of(uint8_t *segment, uint8_t transaction, uint8_t window) {
 
 static void test_numbers(void) {
     uint8_t octets[8];
-    CHECK(CATKHIZE_FIELD_BEGIN_SEQUENCE_NUMBER == 1539u);
-    CHECK(CATKHIZE_CLOSED == 9728u);
+    CHECK(CATKHIZE_REFUSED_FIELD_BEGIN_SEQUENCE_NUMBER == 1539u);
+    CHECK(CATKHIZE_REFUSED_CLOSED == 9728u);
     CHECK(CATKHIZE_REFUSAL_N(1539u) == 6u && CATKHIZE_REFUSAL_M(1539u) == 3u);
-    CHECK(CATKHIZE_IS_REFUSAL(CATKHIZE_VERSION) && !CATKHIZE_IS_REFUSAL(CATKHIZE_NOTHING));
+    CHECK(CATKHIZE_IS_REFUSAL(CATKHIZE_REFUSED_VERSION) && !CATKHIZE_IS_REFUSAL(CATKHIZE_NOTHING));
+    CHECK(CATKHIZE_REFUSED_BUFFER_TOO_SHORT == 65536u);
+    CHECK(CATKHIZE_REFUSED_BUFFER_SPELLS_NONE == 65792u);
+    CHECK(CATKHIZE_REFUSED_NUMBER_NAMES_NONE == 66048u);
+    CHECK(CATKHIZE_REFUSAL_N(65792u) == 257u && CATKHIZE_REFUSAL_M(65792u) == 0u);
+    CHECK(CATKHIZE_IS_OWN_REFUSAL(CATKHIZE_REFUSED_BUFFER_TOO_SHORT) && !CATKHIZE_IS_OWN_REFUSAL(CATKHIZE_REFUSED_TICKETS));
+    CHECK(!CATKHIZE_IS_OWN_REFUSAL(CATKHIZE_NOTHING) && !CATKHIZE_IS_OWN_REFUSAL(CATKHIZE_REFUSAL(255, 255)));
     catkhize_put64(octets, 0x0123456789abcdefu);
     CHECK(octets[0] == 0x01 && octets[7] == 0xef);
     CHECK(catkhize_get64(octets) == 0x0123456789abcdefu);
@@ -98,14 +104,14 @@ static void test_encode(void) {
 
     fill(output, 8);
     fill(answer, sizeof answer);
-    CHECK(catkhize_encode(segment, sizeof segment, data, 2, 1, output, 4, answer, sizeof answer) == CATKHIZE_OUTPUT_TOO_SHORT);
-    CHECK(catkhize_encode(segment, sizeof segment, data, 2, 0, output, 8, answer, sizeof answer) == CATKHIZE_VERSION);
-    CHECK(catkhize_encode(segment, 14, data, 2, 1, output, 8, answer, sizeof answer) == CATKHIZE_BUFFER_TOO_SHORT);
-    CHECK(catkhize_encode(segment, sizeof segment, data, 2, 1, output, 8, answer, 7) == CATKHIZE_BUFFER_TOO_SHORT);
+    CHECK(catkhize_encode(segment, sizeof segment, data, 2, 1, output, 4, answer, sizeof answer) == CATKHIZE_REFUSED_OUTPUT_TOO_SHORT);
+    CHECK(catkhize_encode(segment, sizeof segment, data, 2, 0, output, 8, answer, sizeof answer) == CATKHIZE_REFUSED_VERSION);
+    CHECK(catkhize_encode(segment, 14, data, 2, 1, output, 8, answer, sizeof answer) == CATKHIZE_REFUSED_BUFFER_TOO_SHORT);
+    CHECK(catkhize_encode(segment, sizeof segment, data, 2, 1, output, 8, answer, 7) == CATKHIZE_REFUSED_BUFFER_TOO_SHORT);
     segment[CATKHIZE_SEGMENT_AT_KIND] = 3;
-    CHECK(catkhize_encode(segment, sizeof segment, data, 2, 1, output, 8, answer, sizeof answer) == CATKHIZE_BUFFER_SPELLS_NONE);
+    CHECK(catkhize_encode(segment, sizeof segment, data, 2, 1, output, 8, answer, sizeof answer) == CATKHIZE_REFUSED_BUFFER_SPELLS_NONE);
     segment[CATKHIZE_SEGMENT_AT_KIND] = CATKHIZE_KIND_BEGIN;
-    CHECK(catkhize_encode(segment, sizeof segment, data, 2, 1, output, 8, answer, sizeof answer) == CATKHIZE_FIELD_BEGIN_SEQUENCE_NUMBER);
+    CHECK(catkhize_encode(segment, sizeof segment, data, 2, 1, output, 8, answer, sizeof answer) == CATKHIZE_REFUSED_FIELD_BEGIN_SEQUENCE_NUMBER);
     CHECK(untouched(output, 8) && untouched(answer, sizeof answer));
 }
 
@@ -123,8 +129,8 @@ static void test_decode(void) {
     CHECK(catkhize_decode(unparsed, 5, 1, answer, CATKHIZE_DECODED_OCTETS) == CATKHIZE_DONE);
     CHECK(catkhize_get64(answer + CATKHIZE_DECODED_AT_UNPARSED) == 2);
     fill(answer, sizeof answer);
-    CHECK(catkhize_decode(octets, 5, 1, answer, CATKHIZE_DECODED_OCTETS) == CATKHIZE_TRUNCATED);
-    CHECK(catkhize_decode(octets, 6, 1, answer, CATKHIZE_DECODED_OCTETS - 1u) == CATKHIZE_BUFFER_TOO_SHORT);
+    CHECK(catkhize_decode(octets, 5, 1, answer, CATKHIZE_DECODED_OCTETS) == CATKHIZE_REFUSED_TRUNCATED);
+    CHECK(catkhize_decode(octets, 6, 1, answer, CATKHIZE_DECODED_OCTETS - 1u) == CATKHIZE_REFUSED_BUFFER_TOO_SHORT);
     CHECK(untouched(answer, sizeof answer));
 }
 
@@ -134,10 +140,10 @@ static void test_plan(void) {
     uint8_t i;
     fill(plan, sizeof plan);
     CHECK(catkhize_plan_message(message, 7, 7, 0, CATKHIZE_WINDOW_PROHIBITED, 1, 7, plan, sizeof plan) == CATKHIZE_NOTHING);
-    CHECK(catkhize_plan_message(message, 7, 6, 0, CATKHIZE_WINDOW_PROHIBITED, 1, 5, plan, sizeof plan) == CATKHIZE_PAYLOAD_BUDGET);
-    CHECK(catkhize_plan_message(message, 7, 3, 0, CATKHIZE_WINDOW_PROHIBITED, 1, 5, plan, sizeof plan) == CATKHIZE_HEADER_CAPACITY);
-    CHECK(catkhize_plan_message(message, 7, 6, 0, 6, 1, 6, plan, sizeof plan) == CATKHIZE_NUMBER_NAMES_NONE);
-    CHECK(catkhize_plan_message(message, 7, 6, 0, CATKHIZE_WINDOW_PROHIBITED, 1, 6, plan, sizeof plan - 1) == CATKHIZE_BUFFER_TOO_SHORT);
+    CHECK(catkhize_plan_message(message, 7, 6, 0, CATKHIZE_WINDOW_PROHIBITED, 1, 5, plan, sizeof plan) == CATKHIZE_REFUSED_PAYLOAD_BUDGET);
+    CHECK(catkhize_plan_message(message, 7, 3, 0, CATKHIZE_WINDOW_PROHIBITED, 1, 5, plan, sizeof plan) == CATKHIZE_REFUSED_HEADER_CAPACITY);
+    CHECK(catkhize_plan_message(message, 7, 6, 0, 6, 1, 6, plan, sizeof plan) == CATKHIZE_REFUSED_NUMBER_NAMES_NONE);
+    CHECK(catkhize_plan_message(message, 7, 6, 0, CATKHIZE_WINDOW_PROHIBITED, 1, 6, plan, sizeof plan - 1) == CATKHIZE_REFUSED_BUFFER_TOO_SHORT);
     CHECK(untouched(plan, sizeof plan));
     CHECK(catkhize_plan_message(message, 7, 6, 0, CATKHIZE_WINDOW_PROHIBITED, 1, 6, plan, sizeof plan) == CATKHIZE_DONE);
     CHECK(plan[0] == CATKHIZE_LAYOUT_VERSION && plan[CATKHIZE_PLAN_AT_FORM] == CATKHIZE_PLAN_PLANNED);
@@ -153,9 +159,9 @@ static void test_plan(void) {
     CHECK(catkhize_get16(answer + CATKHIZE_SEGMENT_AT_LENGTH) == 0 && answer[CATKHIZE_SEGMENT_AT_KIND] == CATKHIZE_KIND_END);
     fill(answer, sizeof answer);
     CHECK(catkhize_plan_segment(plan, sizeof plan, 3, answer, CATKHIZE_PART_OCTETS) == CATKHIZE_NOTHING);
-    CHECK(catkhize_plan_segment(plan, sizeof plan, 0, answer, CATKHIZE_PART_OCTETS - 1u) == CATKHIZE_BUFFER_TOO_SHORT);
+    CHECK(catkhize_plan_segment(plan, sizeof plan, 0, answer, CATKHIZE_PART_OCTETS - 1u) == CATKHIZE_REFUSED_BUFFER_TOO_SHORT);
     plan[0] = 2;
-    CHECK(catkhize_plan_segment(plan, sizeof plan, 0, answer, CATKHIZE_PART_OCTETS) == CATKHIZE_BUFFER_SPELLS_NONE);
+    CHECK(catkhize_plan_segment(plan, sizeof plan, 0, answer, CATKHIZE_PART_OCTETS) == CATKHIZE_REFUSED_BUFFER_SPELLS_NONE);
     plan[0] = CATKHIZE_LAYOUT_VERSION;
     CHECK(untouched(answer, sizeof answer));
 }
@@ -171,10 +177,10 @@ static void test_frozen(void) {
         memcpy(heads + CATKHIZE_HEAD_OCTETS * i, answer, CATKHIZE_HEAD_OCTETS);
     }
     fill(frozen, sizeof frozen);
-    CHECK(catkhize_try_from_frozen(heads, sizeof heads, 3, message, 7, other, 7, 6, 1, 6, frozen, sizeof frozen) == CATKHIZE_FROZEN_PLAN);
-    CHECK(catkhize_try_from_frozen(heads, sizeof heads, 3, message, 6, message, 7, 6, 1, 6, frozen, sizeof frozen) == CATKHIZE_JOINED_LENGTH);
-    CHECK(catkhize_try_from_frozen(heads, sizeof heads, 1, message, 7, message, 7, 6, 1, 6, frozen, sizeof frozen) == CATKHIZE_SEGMENT_COUNT);
-    CHECK(catkhize_try_from_frozen(heads, sizeof heads - 1, 3, message, 7, message, 7, 6, 1, 6, frozen, sizeof frozen) == CATKHIZE_BUFFER_TOO_SHORT);
+    CHECK(catkhize_try_from_frozen(heads, sizeof heads, 3, message, 7, other, 7, 6, 1, 6, frozen, sizeof frozen) == CATKHIZE_REFUSED_FROZEN_PLAN);
+    CHECK(catkhize_try_from_frozen(heads, sizeof heads, 3, message, 6, message, 7, 6, 1, 6, frozen, sizeof frozen) == CATKHIZE_REFUSED_JOINED_LENGTH);
+    CHECK(catkhize_try_from_frozen(heads, sizeof heads, 1, message, 7, message, 7, 6, 1, 6, frozen, sizeof frozen) == CATKHIZE_REFUSED_SEGMENT_COUNT);
+    CHECK(catkhize_try_from_frozen(heads, sizeof heads - 1, 3, message, 7, message, 7, 6, 1, 6, frozen, sizeof frozen) == CATKHIZE_REFUSED_BUFFER_TOO_SHORT);
     CHECK(untouched(frozen, sizeof frozen));
     CHECK(catkhize_try_from_frozen(heads, sizeof heads, 3, message, 7, message, 7, 6, 1, 6, frozen, sizeof frozen) == CATKHIZE_DONE);
     CHECK(frozen[CATKHIZE_PLAN_AT_FORM] == CATKHIZE_PLAN_FROZEN);
@@ -205,15 +211,15 @@ static void new_receiver(uint64_t reading) {
 static void test_receiver(void) {
     uint8_t segment[CATKHIZE_SEGMENT_OCTETS];
     fill(record, sizeof record);
-    CHECK(catkhize_receiver_new(record, sizeof record, 0, 34, 0, PROTOCOL, 2, 1, 100, 0) == CATKHIZE_IDENTITY);
-    CHECK(catkhize_receiver_new(record, sizeof record, PEER, CATKHIZE_PROTOCOL_OTHER, 0, 2, 1, 100, 0) == CATKHIZE_SERVICE);
-    CHECK(catkhize_receiver_new(record, sizeof record, PEER, 3, 0, 2, 1, 100, 0) == CATKHIZE_NUMBER_NAMES_NONE);
-    CHECK(catkhize_receiver_new(record, sizeof record - 1, PEER, PROTOCOL, 2, 1, 100, 0) == CATKHIZE_BUFFER_TOO_SHORT);
+    CHECK(catkhize_receiver_new(record, sizeof record, 0, 34, 0, PROTOCOL, 2, 1, 100, 0) == CATKHIZE_REFUSED_IDENTITY);
+    CHECK(catkhize_receiver_new(record, sizeof record, PEER, CATKHIZE_PROTOCOL_OTHER, 0, 2, 1, 100, 0) == CATKHIZE_REFUSED_SERVICE);
+    CHECK(catkhize_receiver_new(record, sizeof record, PEER, 3, 0, 2, 1, 100, 0) == CATKHIZE_REFUSED_NUMBER_NAMES_NONE);
+    CHECK(catkhize_receiver_new(record, sizeof record - 1, PEER, PROTOCOL, 2, 1, 100, 0) == CATKHIZE_REFUSED_BUFFER_TOO_SHORT);
     CHECK(untouched(record, sizeof record));
 
     new_receiver(1000);
     segment_of(segment, 2, 1, CATKHIZE_KIND_END);
-    CHECK(receive(segment, message + 4, 3, 1000) == CATKHIZE_BEGIN_REQUIRED);
+    CHECK(receive(segment, message + 4, 3, 1000) == CATKHIZE_REFUSED_BEGIN_REQUIRED);
     CHECK(untouched(answer, sizeof answer) && untouched(store, sizeof store));
     begin_of(segment, 2, CATKHIZE_WINDOW_LAST);
     CHECK(receive(segment, message, 4, 1000) == CATKHIZE_DONE);
@@ -234,10 +240,10 @@ static void test_receiver(void) {
     CHECK(catkhize_get64(answer + CATKHIZE_RECEPTION_AT_MESSAGE_OCTETS) == 7);
     CHECK(memcmp(output, message, 7) == 0 && untouched(output + 7, sizeof output - 7));
     CHECK(record[CATKHIZE_RECEIVER_AT_STATE] == CATKHIZE_RECEIVER_COMPLETE);
-    CHECK(catkhize_receiver_cancel(record, sizeof record, store, sizeof store, 2000) == CATKHIZE_CLOSED);
-    CHECK(catkhize_receiver_cancel(record, sizeof record, store, CATKHIZE_STORE_OCTETS - 1u, 2000) == CATKHIZE_STORE_TOO_SHORT);
+    CHECK(catkhize_receiver_cancel(record, sizeof record, store, sizeof store, 2000) == CATKHIZE_REFUSED_CLOSED);
+    CHECK(catkhize_receiver_cancel(record, sizeof record, store, CATKHIZE_STORE_OCTETS - 1u, 2000) == CATKHIZE_REFUSED_STORE_TOO_SHORT);
     record[CATKHIZE_RECEIVER_AT_STORED_OCTETS + 7] = 8;
-    CHECK(catkhize_receiver_cancel(record, sizeof record, store, sizeof store, 2000) == CATKHIZE_IMPOSSIBLE_STATE);
+    CHECK(catkhize_receiver_cancel(record, sizeof record, store, sizeof store, 2000) == CATKHIZE_REFUSED_IMPOSSIBLE_STATE);
 }
 
 static void test_receiver_time(void) {
@@ -251,11 +257,11 @@ static void test_receiver_time(void) {
     CHECK(catkhize_receiver_advance(record, sizeof record, store, sizeof store, 300000, answer, sizeof answer) == CATKHIZE_DONE);
     CHECK(answer[CATKHIZE_REPLY_AT_PRESENT] == 1);
     CHECK(answer[CATKHIZE_REPLY_AT_RESPONSE + CATKHIZE_RESPONSE_AT_STATUS] == CATKHIZE_STATUS_INTER_SEGMENT_TIMEOUT);
-    CHECK(catkhize_receiver_advance(record, sizeof record, store, sizeof store, 299999, answer, sizeof answer) == CATKHIZE_CLOCK_REGRESSION);
+    CHECK(catkhize_receiver_advance(record, sizeof record, store, sizeof store, 299999, answer, sizeof answer) == CATKHIZE_REFUSED_CLOCK_REGRESSION);
     CHECK(catkhize_receiver_cancel(record, sizeof record, store, sizeof store, 300000) == CATKHIZE_DONE);
     CHECK(record[CATKHIZE_RECEIVER_AT_STATE] == CATKHIZE_RECEIVER_CANCELED);
     CHECK(zero(store, CATKHIZE_STORE_OCTETS) && untouched(store + CATKHIZE_STORE_OCTETS, 8));
-    CHECK(receive(segment, message, 1, 300000) == CATKHIZE_CLOSED);
+    CHECK(receive(segment, message, 1, 300000) == CATKHIZE_REFUSED_CLOSED);
 }
 
 static void test_train(void) {
@@ -275,7 +281,7 @@ static void test_train(void) {
 
     new_receiver(0);
     CHECK(catkhize_receiver_train(record, sizeof record, store, sizeof store, output, sizeof output, PEER, PROTOCOL, octets, sizeof octets,
-              lengths, 6, 7, answer, sizeof answer) == CATKHIZE_CLOSED);
+              lengths, 6, 7, answer, sizeof answer) == CATKHIZE_REFUSED_CLOSED);
     CHECK(catkhize_get64(answer + CATKHIZE_TRAIN_AT_RECEIVED) == 2);
     CHECK(record[CATKHIZE_RECEIVER_AT_STATE] == CATKHIZE_RECEIVER_COMPLETE);
 }
@@ -305,7 +311,7 @@ static void send_one(uint64_t ticket) {
     CHECK(catkhize_sender_submitted(sender, sizeof sender, NUMBER, ticket, 10, 10, state, sizeof state) == CATKHIZE_DONE);
     CHECK(state[0] == CATKHIZE_SENDER_AWAITING_ACCEPT);
     CHECK(submission() == CATKHIZE_NOTHING && untouched(answer, sizeof answer));
-    CHECK(catkhize_sender_accepted(sender, sizeof sender, NUMBER + 1, ticket, 10, state, sizeof state) == CATKHIZE_STALE_SUBMISSION);
+    CHECK(catkhize_sender_accepted(sender, sizeof sender, NUMBER + 1, ticket, 10, state, sizeof state) == CATKHIZE_REFUSED_STALE_SUBMISSION);
     CHECK(catkhize_sender_accepted(sender, sizeof sender, NUMBER, ticket, 10, state, sizeof state) == CATKHIZE_DONE);
 }
 
@@ -315,8 +321,8 @@ static void test_sender(void) {
     uint64_t count;
     new_sender(CATKHIZE_WINDOW_LAST);
     fill(sender, sizeof sender);
-    CHECK(catkhize_sender_new(sender, sizeof sender, PEER, PROTOCOL, plan, sizeof plan, message, 6, 1, NUMBER, 0) == CATKHIZE_PLAN);
-    CHECK(catkhize_sender_new(sender, sizeof sender, PEER, PROTOCOL, plan, sizeof plan - 1, message, 7, 1, NUMBER, 0) == CATKHIZE_BUFFER_TOO_SHORT);
+    CHECK(catkhize_sender_new(sender, sizeof sender, PEER, PROTOCOL, plan, sizeof plan, message, 6, 1, NUMBER, 0) == CATKHIZE_REFUSED_PLAN);
+    CHECK(catkhize_sender_new(sender, sizeof sender, PEER, PROTOCOL, plan, sizeof plan - 1, message, 7, 1, NUMBER, 0) == CATKHIZE_REFUSED_BUFFER_TOO_SHORT);
     CHECK(untouched(sender, sizeof sender));
     new_sender(CATKHIZE_WINDOW_LAST);
     CHECK(catkhize_get64(plan + CATKHIZE_PLAN_AT_COUNT) == 3);
@@ -332,7 +338,7 @@ static void test_sender(void) {
     response[CATKHIZE_RESPONSE_AT_TRANSACTION] = 2;
     catkhize_put16(response + CATKHIZE_RESPONSE_AT_ENTRIES, 3);
     catkhize_put64(response + CATKHIZE_RESPONSE_AT_MAP, 0x5u);
-    CHECK(catkhize_sender_receive_response(sender, sizeof sender, 1, 34, 5, PROTOCOL, response, sizeof response, 0, 20, state, sizeof state) == CATKHIZE_PEER);
+    CHECK(catkhize_sender_receive_response(sender, sizeof sender, 1, 34, 5, PROTOCOL, response, sizeof response, 0, 20, state, sizeof state) == CATKHIZE_REFUSED_PEER);
     CHECK(catkhize_sender_receive_response(sender, sizeof sender, PEER, PROTOCOL, response, sizeof response, 0, 20, state, sizeof state) == CATKHIZE_DONE);
     CHECK(state[0] == CATKHIZE_SENDER_PREPARED);
     CHECK(submission() == CATKHIZE_DONE && answer[CATKHIZE_SUBMISSION_AT_INDEX] == 1);
@@ -350,7 +356,7 @@ static void test_sender_ends(void) {
     uint8_t state[CATKHIZE_STATE_OCTETS];
     new_sender(CATKHIZE_WINDOW_PROHIBITED);
     CHECK(catkhize_sender_submitted(sender, sizeof sender, NUMBER, 0, 5, 5, state, sizeof state) == CATKHIZE_DONE);
-    CHECK(catkhize_sender_lower_failed(sender, sizeof sender, NUMBER, 0, 3, 0, 6, state, sizeof state) == CATKHIZE_NUMBER_NAMES_NONE);
+    CHECK(catkhize_sender_lower_failed(sender, sizeof sender, NUMBER, 0, 3, 0, 6, state, sizeof state) == CATKHIZE_REFUSED_NUMBER_NAMES_NONE);
     CHECK(catkhize_sender_lower_failed(sender, sizeof sender, NUMBER, 0, CATKHIZE_LOWER_LAYER_REJECTED, 9, 6, state, sizeof state) == CATKHIZE_DONE);
     CHECK(state[0] == CATKHIZE_SENDER_FAILED && state[CATKHIZE_STATE_AT_FAILURE] == CATKHIZE_FAILED_LOWER_LAYER);
     CHECK(state[CATKHIZE_STATE_AT_LOWER_LAYER] == CATKHIZE_LOWER_LAYER_REJECTED && state[CATKHIZE_STATE_AT_VALUE] == 9);
@@ -358,15 +364,15 @@ static void test_sender_ends(void) {
     new_sender(CATKHIZE_WINDOW_PROHIBITED);
     CHECK(catkhize_sender_submitted(sender, sizeof sender, NUMBER, 0, 5, 5, state, sizeof state) == CATKHIZE_DONE);
     fill(state, sizeof state);
-    CHECK(catkhize_sender_accepted(sender, sizeof sender, NUMBER, 0, 330005, state, sizeof state) == CATKHIZE_STALE_SUBMISSION);
+    CHECK(catkhize_sender_accepted(sender, sizeof sender, NUMBER, 0, 330005, state, sizeof state) == CATKHIZE_REFUSED_STALE_SUBMISSION);
     CHECK(untouched(state, sizeof state) && sender[CATKHIZE_SENDER_AT_STATE] == CATKHIZE_SENDER_FAILED);
 
     new_sender(CATKHIZE_WINDOW_EXCEPTIONS);
     CHECK(catkhize_sender_advance(sender, sizeof sender, 100, state, sizeof state) == CATKHIZE_DONE && state[0] == CATKHIZE_SENDER_PREPARED);
-    CHECK(catkhize_sender_advance(sender, sizeof sender, 99, state, sizeof state) == CATKHIZE_CLOCK_REGRESSION);
-    CHECK(catkhize_sender_advance(sender, sizeof sender, 100, state, 3) == CATKHIZE_BUFFER_TOO_SHORT);
+    CHECK(catkhize_sender_advance(sender, sizeof sender, 99, state, sizeof state) == CATKHIZE_REFUSED_CLOCK_REGRESSION);
+    CHECK(catkhize_sender_advance(sender, sizeof sender, 100, state, 3) == CATKHIZE_REFUSED_BUFFER_TOO_SHORT);
     sender[0] = 0;
-    CHECK(catkhize_sender_advance(sender, sizeof sender, 100, state, sizeof state) == CATKHIZE_BUFFER_SPELLS_NONE);
+    CHECK(catkhize_sender_advance(sender, sizeof sender, 100, state, sizeof state) == CATKHIZE_REFUSED_BUFFER_SPELLS_NONE);
     sender[0] = CATKHIZE_LAYOUT_VERSION;
     CHECK(catkhize_sender_cancel(sender, sizeof sender, 100, state, sizeof state) == CATKHIZE_DONE && state[0] == CATKHIZE_SENDER_CANCELLED);
 }

@@ -11,14 +11,14 @@ pub const DONE: u32 = 0;
 // There is nothing: no refusal either.
 pub const NOTHING: u32 = 1;
 
-// 80: a lent buffer is shorter than its layout.
-pub const SHORT: u32 = 20480;
+// 256: a lent buffer is shorter than its layout.
+pub const SHORT: u32 = 65536;
 
-// 81: a buffer spells no value.
-pub const MISSPELLED: u32 = 20736;
+// 257: a buffer spells no value.
+pub const MISSPELLED: u32 = 65792;
 
-// 82: a number names no case.
-pub const UNNAMED: u32 = 20992;
+// 258: a number names no case.
+pub const UNNAMED: u32 = 66048;
 
 // Document 01's 61: the output is shorter than what is to be written.
 pub const OUTPUT_TOO_SHORT: u32 = 15616;

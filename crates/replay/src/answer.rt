@@ -12,7 +12,7 @@ const REFUSED: u8 = 1;
 // 1/0, the smallest refusal of document 01.
 const FIRST_REFUSAL: u32 = 256;
 
-// Whether an answer begins with 01 n m, for document 01's refusal n/m. The exports' own, from 80 on, are in no answer.
+// Whether an answer begins with 01 n m, for document 01's refusal n/m. The exports' own, from 256 on, are in no answer.
 pub fn is_refusal(code: u32, expected: &[u8]) -> bool {
     if code < FIRST_REFUSAL {
         return false;

@@ -17,9 +17,9 @@ use record::random::Random;
 
 use crate::plans::{head_octets, port_frozen, port_plan};
 
-const SHORT: u32 = 256 * 80;
-const SPELLS_NONE: u32 = 256 * 81;
-const NAMES_NONE: u32 = 256 * 82;
+const SHORT: u32 = 256 * spells::TOO_SHORT;
+const SPELLS_NONE: u32 = 256 * spells::SPELLS_NONE;
+const NAMES_NONE: u32 = 256 * spells::NAMES_NONE;
 
 pub fn codec(table: &mut Table, seed: u64) -> Checked {
     segments(table.area("codec"), &mut Random::new(seed))?;

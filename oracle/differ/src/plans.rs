@@ -97,22 +97,27 @@ fn segments(area: &mut Area, plan: &[u8], original: &SegmentedMessage, all: bool
     let mut offset = 0;
     for (index, segment) in segments.iter().enumerate() {
         if all || index < 3 || index + 3 > count || index % 64 == 63 {
-            area.cases += 1;
-            part(plan, index, Some((segment, offset)))?;
+            part(area, plan, index, Some((segment, offset)))?;
         }
         offset += segment.segment_data.len();
     }
     if count < MAX_SEGMENTS {
-        part(plan, count, None)?;
-        part(plan, MAX_SEGMENTS - 1, None)?;
+        part(area, plan, count, None)?;
+        part(area, plan, MAX_SEGMENTS - 1, None)?;
     }
     Ok(())
 }
 
-fn part(plan: &[u8], index: usize, expected: Option<(&Segment, usize)>) -> Checked {
+fn part(
+    area: &mut Area,
+    plan: &[u8],
+    index: usize,
+    expected: Option<(&Segment, usize)>,
+) -> Checked {
     let mut answer = [FILLING; layout::PART];
     let index = u8::try_from(index).expect("a plan has 256 segments");
     let found = calls::plan_segment(plan, index, &mut answer);
+    area.count(found);
     let named = |what: String| format!("segment {index}: {what}");
     match expected {
         None => {

@@ -457,7 +457,7 @@ impl Port {
         same("output", &self.output, &self.expected_output)
     }
 
-    /// The call on a record with an octet changed: 81 where it spells none, 62 where it spells an impossible one.
+    /// The call on a record with an octet changed: 257 where it spells none, 62 where it spells an impossible one.
     fn damaged(
         &mut self,
         (at, change, also): (u64, u64, u64),
@@ -473,7 +473,7 @@ impl Port {
             self.record[at] ^= (change >> 8) as u8;
         }
         let expected = if !spells::receiver(&self.record) {
-            81
+            spells::SPELLS_NONE
         } else if spells::receiver_impossible(&self.record) {
             62
         } else {
@@ -589,20 +589,21 @@ impl Port {
         same("output", &self.output, &self.expected_output)
     }
 
-    /// A buffer that is shorter than its layout (80), a segment that spells none (81), a protocol that names no case (82).
+    /// A buffer that is shorter than its layout (256), a segment that spells none (257), a protocol that names no case (258).
     fn buffers(&mut self, (which, by): (u64, u64), case: &Case, area: &mut Area) -> Checked {
         let receives = case.op == RECEIVE || case.op == TRAIN;
         let shorter = |octets: usize| octets - 1 - by as usize % octets;
         let answer = answer_octets(case.op);
         let mut wrong = Wrong::default();
-        let (mut record, mut lent_answer, mut expected) = (self.record.len(), answer, 80);
+        let (mut record, mut lent_answer, mut expected) =
+            (self.record.len(), answer, spells::TOO_SHORT);
         match which % 5 {
             0 => record = shorter(layout::RECEIVER),
             1 if answer > 0 => lent_answer = shorter(answer),
             2 if case.op == RECEIVE => wrong.segment_octets = Some(shorter(layout::SEGMENT)),
             3 if receives => {
                 wrong.protocol = Some(3 + (by % 253) as u8);
-                expected = 82;
+                expected = spells::NAMES_NONE;
             }
             4 if case.op == RECEIVE => {
                 let delivery = Delivery::take(&mut Take(&case.input));
@@ -613,7 +614,7 @@ impl Port {
                     return Ok(());
                 }
                 wrong.segment = Some(change);
-                expected = 81;
+                expected = spells::SPELLS_NONE;
             }
             _ => return Ok(()),
         }

@@ -321,7 +321,7 @@ impl Port {
         same("record", &record, &expected)
     }
 
-    /// The call on a record with an octet changed: 81 where it spells none, 62 where it spells an impossible one.
+    /// The call on a record with an octet changed: 257 where it spells none, 62 where it spells an impossible one.
     fn damaged(
         &self,
         (at, change, also): (u64, u64, u64),
@@ -334,7 +334,7 @@ impl Port {
             record[(also - 1) as usize % layout::SENDER] ^= (change >> 8) as u8;
         }
         let expected = if !spells::sender(&record) {
-            81
+            spells::SPELLS_NONE
         } else if spells::sender_impossible(&record) {
             62
         } else {
@@ -354,9 +354,12 @@ impl Port {
         same_given(found, 256 * expected)?;
         same("answer", &answer, &filled(layout::STATE))?;
         same("record", &record, &before)?;
-        if expected == 81 {
+        if expected == spells::SPELLS_NONE {
             let mut answer = filled(layout::SUBMISSION);
-            same_given(calls::sender_submission(&record, &mut answer), 256 * 81)?;
+            same_given(
+                calls::sender_submission(&record, &mut answer),
+                256 * spells::SPELLS_NONE,
+            )?;
             same("submission", &answer, &filled(layout::SUBMISSION))?;
         }
         Ok(())
@@ -421,28 +424,29 @@ impl Port {
         same("record", &record, &expected)
     }
 
-    /// A buffer that is shorter than its layout (80), a response that spells none (81), a number that names no case (82).
+    /// A buffer that is shorter than its layout (256), a response that spells none (257), a number that names no case (258).
     fn buffers(&mut self, (which, by): (u64, u64), case: &Case, area: &mut Area) -> Checked {
         let shorter = |octets: usize| octets - 1 - by as usize % octets;
         let mut wrong = Wrong::default();
-        let (mut record, mut answer, mut expected) = (self.record.len(), layout::STATE, 80);
+        let (mut record, mut answer, mut expected) =
+            (self.record.len(), layout::STATE, spells::TOO_SHORT);
         match which % 7 {
             0 => record = shorter(layout::SENDER),
             1 => answer = shorter(layout::STATE),
             2 if case.op == RESPONSE => wrong.response_octets = Some(shorter(layout::RESPONSE)),
             3 if case.op == RESPONSE => {
                 wrong.protocol = Some(3 + (by % 253) as u8);
-                expected = 82;
+                expected = spells::NAMES_NONE;
             }
             4 if case.op == LOWER_FAILED => {
                 wrong.failure = Some(3 + (by % 253) as u8);
-                expected = 82;
+                expected = spells::NAMES_NONE;
             }
             5 => {
                 let mut answer = filled(shorter(layout::SUBMISSION));
                 let found = calls::sender_submission(&self.record, &mut answer);
                 area.count(found);
-                same_given(found, 256 * 80)?;
+                same_given(found, 256 * spells::TOO_SHORT)?;
                 return same("submission", &answer, &filled(answer.len()));
             }
             6 if case.op == RESPONSE => {
@@ -453,7 +457,7 @@ impl Port {
                     return Ok(());
                 }
                 wrong.response = Some((at, (by >> 8) as u8));
-                expected = 81;
+                expected = spells::SPELLS_NONE;
             }
             _ => return Ok(()),
         }
@@ -472,7 +476,7 @@ impl Port {
         same("record", &self.record, &before)
     }
 
-    /// try_new with a plan of which an octet is changed, or with another message: 81, 40 or made, as a recomputation by the original says.
+    /// try_new with a plan of which an octet is changed, or with another message: 257, 40 or made, as a recomputation by the original says.
     fn changed_plan(&self, (at, change, also): (u64, u64, u64), area: &mut Area) -> Checked {
         let mut plan = self.plan.clone();
         plan[at as usize % layout::PLAN] = change as u8;
@@ -500,7 +504,7 @@ impl Port {
         );
         area.count(found);
         let expected = if !spells::plan(&plan) {
-            256 * 81
+            256 * spells::SPELLS_NONE
         } else if is_plan_of(&plan, &message) {
             0
         } else {
@@ -528,7 +532,9 @@ fn is_plan_of(plan: &[u8], message: &[u8]) -> bool {
         let version = ProtocolVersion(1);
         return match plan_message(message, budget, transaction, spell::window(window), version) {
             // Under Planned the frozen part is that of no segments.
-            Ok(MessagePlan::Segmented(original)) => spell::planned(&original)[..] == plan[..],
+            Ok(MessagePlan::Segmented(original)) => {
+                spell::planned(&original) == plan[..layout::PLAN]
+            }
             _ => false,
         };
     }

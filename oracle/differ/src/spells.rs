@@ -1,8 +1,13 @@
-//! Whether a buffer spells what its layout says (81), and whether the state that a record spells is impossible (62): document 01's list,
+//! Whether a buffer spells what its layout says (257), and whether the state that a record spells is impossible (62): document 01's list,
 //! read here from the octets alone.
 
 use catkhize::layout;
 use record::octets::Take;
+
+/// The exports' own refusals: a buffer is shorter than its layout, spells no value, a number names no case.
+pub const TOO_SHORT: u32 = 256;
+pub const SPELLS_NONE: u32 = 257;
+pub const NAMES_NONE: u32 = 258;
 
 /// A flag, and a value that is 0 where the flag is.
 fn optional(take: &mut Take, octets: usize) -> bool {

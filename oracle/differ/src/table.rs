@@ -2,37 +2,19 @@
 
 use std::collections::BTreeMap;
 
-/// No call gives a greater number than 82/0.
-const NUMBERS: usize = 256 * 83;
-
-#[derive(Clone)]
+#[derive(Clone, Default)]
 pub struct Area {
-    pub cases: u64,
-    /// How often each number was given.
-    given: Vec<u64>,
+    /// How often each number was given, whatever number it is. A case is counted here alone, so none is dropped.
+    given: BTreeMap<u32, u64>,
     pub states: BTreeMap<[u8; 4], u64>,
     /// Inputs that a run has to have, by name.
     pub inputs: BTreeMap<&'static str, u64>,
 }
 
-impl Default for Area {
-    fn default() -> Self {
-        Self {
-            cases: 0,
-            given: vec![0; NUMBERS],
-            states: BTreeMap::new(),
-            inputs: BTreeMap::new(),
-        }
-    }
-}
-
 impl Area {
     /// A case of this area, and the number that the port gave.
     pub fn count(&mut self, given: u32) {
-        self.cases += 1;
-        if let Some(count) = self.given.get_mut(given as usize) {
-            *count += 1;
-        }
+        *self.given.entry(given).or_default() += 1;
     }
 
     pub fn state(&mut self, state: [u8; 4]) {
@@ -44,9 +26,8 @@ impl Area {
     }
 
     fn add(&mut self, other: &Self) {
-        self.cases += other.cases;
-        for (count, more) in self.given.iter_mut().zip(&other.given) {
-            *count += more;
+        for (number, more) in &other.given {
+            *self.given.entry(*number).or_default() += more;
         }
         for (state, more) in &other.states {
             *self.states.entry(*state).or_default() += more;
@@ -56,9 +37,13 @@ impl Area {
         }
     }
 
-    fn refusals(&self) -> impl Iterator<Item = (usize, u64)> {
-        let given = self.given.iter().copied().enumerate();
-        given.filter(|(number, count)| *number >= 256 && *count > 0)
+    fn refusals(&self) -> impl Iterator<Item = (u32, u64)> {
+        let given = self.given.iter().map(|(number, count)| (*number, *count));
+        given.filter(|(number, _)| *number >= 256)
+    }
+
+    fn cases(&self) -> u64 {
+        self.given.values().sum()
     }
 }
 
@@ -78,30 +63,30 @@ impl Table {
     }
 }
 
-fn refusal_name(number: usize) -> String {
+fn refusal_name(number: u32) -> String {
     match number % 256 {
         0 => (number / 256).to_string(),
         field => format!("{}/{field}", number / 256),
     }
 }
 
-/// The refusals that a run has to see, by area. 24, 40, 41, 60 to 63 and 80 to 82 lie outside document 01's domain, as no list of calls on
+/// The refusals that a run has to see, by area. 24, 40, 41, 60 to 63 and 256 to 258 lie outside document 01's domain, as no list of calls on
 /// right buffers gives them; the run reaches them with damaged plans, records and buffers.
 const REFUSALS: [(&str, &str); 6] = [
-    ("codec", "1 2 3 4 5 6/1 6/2 6/3 6/4 6/5 7 8 61 80 81"),
-    ("planner", "1 6/1 20 21 22 80 81 82"),
-    ("frozen check", "1 6/1 6/2 6/3 6/4 6/5 20 22 23 24 80 81"),
+    ("codec", "1 2 3 4 5 6/1 6/2 6/3 6/4 6/5 7 8 61 256 257"),
+    ("planner", "1 6/1 20 21 22 256 257 258"),
+    ("frozen check", "1 6/1 6/2 6/3 6/4 6/5 20 22 23 24 256 257"),
     (
         "receiver",
-        "1 6/1 6/2 6/3 6/4 6/5 30 31 32 33 34 35 36 37 38 60 61 62 80 81 82",
+        "1 6/1 6/2 6/3 6/4 6/5 30 31 32 33 34 35 36 37 38 60 61 62 256 257 258",
     ),
     (
         "train",
-        "2 3 4 5 6/3 7 8 30 31 32 33 34 35 36 37 38 60 61 62 80 81 82",
+        "2 3 4 5 6/3 7 8 30 31 32 33 34 35 36 37 38 60 61 62 256 257 258",
     ),
     (
         "sender",
-        "1 6/1 6/6 6/7 30 31 32 33 34 38 40 41 42 43 44 45 46 47 48 49 62 63 80 81 82",
+        "1 6/1 6/6 6/7 30 31 32 33 34 38 40 41 42 43 44 45 46 47 48 49 62 63 256 257 258",
     ),
 ];
 
@@ -222,7 +207,7 @@ fn joined(items: impl Iterator<Item = (String, u64)>) -> String {
 impl Table {
     pub fn print(&self) {
         for (name, area) in &self.0 {
-            println!("{name}: {} cases", area.cases);
+            println!("{name}: {} cases", area.cases());
             let refusals = area.refusals();
             let refusals = joined(refusals.map(|(number, count)| (refusal_name(number), count)));
             println!("  refusals: {refusals}");

@@ -218,7 +218,7 @@ mod c {
 }
 
 /// Who a segment or a response is from: a peer, and a protocol as its number (0 Segmented, 1 CarrierSpecific, 2 another) and octet. Any
-/// numbers may be given; those that name no case are refused with 82.
+/// numbers may be given; those that name no case are refused with 258.
 #[derive(Debug, Clone, Copy, PartialEq, Eq)]
 pub struct Origin {
     /// The peer's kind.

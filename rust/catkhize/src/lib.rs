@@ -3,6 +3,33 @@
 //! The types have the names of the Rust that the core is a port of. A call that is refused gives a [`Refusal`] with document 01's number
 //! (docs/01-scope.md). No call panics, whatever it is given. [`calls`] has the entries as they are, on octets.
 //!
+//! # Numbers that several calls take
+//!
+//! - A version is the protocol version under which segments and responses are written and read: 1 is Pv1, 5 is Pv5, and 0 is refused. From
+//!   1 on all are treated alike, but that a response has a support list from 5 on only.
+//! - The payload budget is how many octets one encoded segment may have. The ceiling is the source's MAX_DATA_PAYLOAD_OCTETS, the most
+//!   octets that a payload of the layer below has room for; the budget is at most that.
+//! - A reading (`monotonic_ms`) is now, in milliseconds of a clock that never falls. Nothing happens between calls: at a machine's deadline
+//!   call its `advance` ([`Receiver::advance`], [`Sender::advance`]).
+//!
+//! # Refused calls
+//!
+//! An `Err` leaves a machine as it was, except in document 01's late cases, where the call let time act before it refused, and in one case
+//! where it takes the reading alone:
+//!
+//! | Call | `Err` | What has changed |
+//! |---|---|---|
+//! | [`Receiver::receive`] | [`Refusal::CLOSED`], past the deadline under Prohibited | the receiver has expired |
+//! | [`Receiver::receive`] | [`Refusal::CLOSED`], Complete, a sequence number that is not held | the last reading |
+//! | [`Sender::submitted`] | [`Refusal::RECEIPT_TIME`], queued at or past the deadline under Prohibited | the sender has failed |
+//! | [`Sender::accepted`], [`Sender::lower_failed`] | [`Refusal::STALE_SUBMISSION`], at or past the deadline | what [`Sender::advance`] does |
+//! | [`Sender::receive_response`] | [`Refusal::CLOSED`], past a deadline that closes the sender | what [`Sender::advance`] does |
+//!
+//! So look at the state after an `Err` too. The exports' own refusals ([`Refusal::is_own`]) are about buffers and numbers, which these types
+//! keep right.
+//!
+//! # Example
+//!
 //! A message from a sender to a receiver:
 //!
 //! ```

@@ -1,4 +1,5 @@
-/// A peer: kind, width and value. A machine serves it where the value is not 0, fits the width, and the width is at most 63.
+/// A peer: kind, width and value. A machine is made for it where the value is not 0, fits the width, and the width is at most 63. What
+/// comes from a peer that is not the same in all three is refused.
 ///
 /// ```
 /// use catkhize::*;
@@ -8,7 +9,7 @@
 /// ```
 #[derive(Debug, Clone, Copy, PartialEq, Eq, Hash)]
 pub struct MobileIdentity {
-    /// What sort of identity it is.
+    /// What sort of identity it is. Any number; it is only compared.
     pub kind: u8,
     /// The number of bits of the value.
     pub width: u8,

@@ -36,7 +36,7 @@ pub struct SegmentedMessage<'a> {
     message: &'a [u8],
 }
 
-/// Cuts a message into segments of at most `payload_budget_octets`, which is at most `ceiling`.
+/// Cuts a message into segments of at most `payload_budget_octets`, which is at most `ceiling`, the source's MAX_DATA_PAYLOAD_OCTETS.
 ///
 /// ```
 /// use catkhize::*;

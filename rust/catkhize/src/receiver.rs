@@ -115,6 +115,22 @@ impl Receiver {
     }
 
     /// Takes one decoded segment. A failed reception is no refusal: the state has its status.
+    ///
+    /// Two refusals change the receiver, both [`Refusal::CLOSED`]: past the deadline under Prohibited it expires, and a Complete receiver
+    /// takes the reading of a segment that it does not hold. Past the deadline under any other window the segment is refused with
+    /// [`Refusal::TIMER_DUE`], and nothing is changed: [`advance`](Self::advance), then give it again.
+    ///
+    /// ```
+    /// use catkhize::*;
+    /// let peer = MobileIdentity { kind: 0, width: 34, value: 1 };
+    /// let protocol = HigherLayerProtocol::Segmented(0);
+    /// let mut receiver = Receiver::try_new(peer, protocol, 0, 1, 100, 0)?;
+    /// receiver.receive(peer, protocol, &decode_segment(&[0, 0, 0], 1)?, 0)?;
+    /// let late = receiver.receive(peer, protocol, &decode_segment(&[8, 1, 0], 1)?, 300_001);
+    /// assert_eq!(late, Err(Refusal::CLOSED));
+    /// assert_eq!(receiver.state(), ReceiverState::Expired);
+    /// # Ok::<(), Refusal>(())
+    /// ```
     pub fn receive(
         &mut self,
         peer: MobileIdentity,
@@ -165,9 +181,7 @@ impl Receiver {
             &mut answer,
         );
         let stopped = Given::new(given).done().err();
-        if let Some(refusal) =
-            stopped.filter(|refusal| refusal.number() >= Refusal::BUFFER_TOO_SHORT.number())
-        {
+        if let Some(refusal) = stopped.filter(|refusal| refusal.is_own()) {
             return Err(refusal);
         }
         let mut take = Take(&answer);
@@ -194,6 +208,11 @@ impl Receiver {
     }
 
     /// Lets time pass. A response asks the peer for what is missing.
+    ///
+    /// It is to be called at [`deadline_monotonic_ms`](Self::deadline_monotonic_ms), or as soon after it as may be: nothing happens between
+    /// calls. Under Prohibited the receiver then expires; under any other window it answers and stays open, without a deadline until the
+    /// next segment. Before the deadline it only takes the reading. A segment that comes at the deadline itself is taken if it is received
+    /// first.
     ///
     /// ```
     /// use catkhize::*;

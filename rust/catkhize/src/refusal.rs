@@ -1,7 +1,9 @@
 use std::error::Error;
 use std::fmt;
 
-/// Why a call was refused: document 01's refusal n/m, or one of the exports' own (80 to 82).
+/// Why a call was refused: document 01's refusal n/m, or one of the exports' own (256 to 258).
+///
+/// A refused call changes nothing, but in the late cases that [the crate](crate#refused-calls) names.
 ///
 /// ```
 /// use catkhize::{Refusal, decode_segment};
@@ -9,8 +11,9 @@ use std::fmt;
 /// assert_eq!(refusal, Refusal::BEGIN_SEQUENCE_NUMBER);
 /// assert_eq!((refusal.number(), refusal.field()), (6, 3));
 /// assert_eq!(refusal.to_string(), "refusal 6/3: BeginSequenceNumber");
+/// assert_eq!(format!("{refusal:?}"), "Refusal(6/3 BeginSequenceNumber)");
 /// ```
-#[derive(Debug, Clone, Copy, PartialEq, Eq, PartialOrd, Ord, Hash)]
+#[derive(Clone, Copy, PartialEq, Eq, PartialOrd, Ord, Hash)]
 pub struct Refusal(u32);
 
 const fn of(number: u32, field: u32) -> Refusal {
@@ -119,11 +122,11 @@ refusals! {
     /// A new submission would need ticket 2^64.
     TICKETS = 63 / 0, "Tickets";
     /// A buffer is shorter than its layout.
-    BUFFER_TOO_SHORT = 80 / 0, "BufferTooShort";
+    BUFFER_TOO_SHORT = 256 / 0, "BufferTooShort";
     /// A buffer that is read spells nothing.
-    BUFFER_SPELLS_NONE = 81 / 0, "BufferSpellsNone";
+    BUFFER_SPELLS_NONE = 257 / 0, "BufferSpellsNone";
     /// A number that names no case.
-    NUMBER_NAMES_NONE = 82 / 0, "NumberNamesNone";
+    NUMBER_NAMES_NONE = 258 / 0, "NumberNamesNone";
 }
 
 /// What the number that a call gives means.
@@ -173,14 +176,40 @@ impl Refusal {
     pub fn field(self) -> u32 {
         self.0 % 256
     }
+
+    /// Whether it is one of the exports' own, which document 01 has not: a buffer or a number is wrong, and no lent octet was changed.
+    ///
+    /// ```
+    /// use catkhize::Refusal;
+    /// assert!(Refusal::BUFFER_TOO_SHORT.is_own() && Refusal::NUMBER_NAMES_NONE.is_own());
+    /// assert!(!Refusal::TICKETS.is_own());
+    /// ```
+    pub fn is_own(self) -> bool {
+        self.number() >= Self::BUFFER_TOO_SHORT.number()
+    }
+
+    /// n, or n/m where there is an m.
+    fn put_number(self, f: &mut fmt::Formatter<'_>) -> fmt::Result {
+        match self.field() {
+            0 => write!(f, "{}", self.number()),
+            field => write!(f, "{}/{field}", self.number()),
+        }
+    }
 }
 
 impl fmt::Display for Refusal {
     fn fmt(&self, f: &mut fmt::Formatter<'_>) -> fmt::Result {
-        match self.field() {
-            0 => write!(f, "refusal {}: {}", self.number(), self.name()),
-            field => write!(f, "refusal {}/{field}: {}", self.number(), self.name()),
-        }
+        f.write_str("refusal ")?;
+        self.put_number(f)?;
+        write!(f, ": {}", self.name())
+    }
+}
+
+impl fmt::Debug for Refusal {
+    fn fmt(&self, f: &mut fmt::Formatter<'_>) -> fmt::Result {
+        f.write_str("Refusal(")?;
+        self.put_number(f)?;
+        write!(f, " {})", self.name())
     }
 }
 

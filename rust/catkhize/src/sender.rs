@@ -130,6 +130,14 @@ pub struct Submission<'a> {
 
 /// The sender of one message.
 ///
+/// It is not `Clone`: two would have one number and offer the same tickets, and could not tell each other's submissions.
+///
+/// ```compile_fail
+/// fn twice<'a>(sender: &catkhize::Sender<'a>) -> catkhize::Sender<'a> {
+///     sender.clone()
+/// }
+/// ```
+///
 /// ```
 /// use catkhize::*;
 /// let peer = MobileIdentity { kind: 0, width: 34, value: 1 };
@@ -146,7 +154,7 @@ pub struct Submission<'a> {
 /// assert_eq!(sender.layer3_submissions(), 3);
 /// # Ok::<(), Refusal>(())
 /// ```
-#[derive(Debug, Clone)]
+#[derive(Debug)]
 pub struct Sender<'a> {
     record: Vec<u8>,
     message: &'a [u8],
@@ -185,6 +193,11 @@ impl<'a> Sender<'a> {
 
     /// Lets time pass.
     ///
+    /// It is to be called at [`deadline_monotonic_ms`](Self::deadline_monotonic_ms), or as soon after it as may be: nothing happens between
+    /// calls. Under Prohibited the sender then fails; under Exceptions it completes if all is sent and accepted; in every other case the
+    /// segment that is not accepted yet, or all that the peer has not acknowledged (the last segment if that is none), is offered again.
+    /// Before the deadline it only takes the reading.
+    ///
     /// ```
     /// # use catkhize::*;
     /// # let peer = MobileIdentity { kind: 0, width: 34, value: 1 };
@@ -202,6 +215,9 @@ impl<'a> Sender<'a> {
     }
 
     /// Layer 3 took the submission at `queued_monotonic_ms`; `observed_monotonic_ms` is now.
+    ///
+    /// [`Refusal::RECEIPT_TIME`] changes the sender where the window is Prohibited and the queued reading is at or past the deadline: it
+    /// has failed.
     ///
     /// ```
     /// # use catkhize::*;
@@ -234,6 +250,8 @@ impl<'a> Sender<'a> {
 
     /// The peer's Layer 3 accepted the submission.
     ///
+    /// [`Refusal::STALE_SUBMISSION`] changes the sender at or past the deadline, which acts first.
+    ///
     /// ```
     /// # use catkhize::*;
     /// # let peer = MobileIdentity { kind: 0, width: 34, value: 1 };
@@ -263,6 +281,8 @@ impl<'a> Sender<'a> {
     }
 
     /// Layer 3 gave the submission up.
+    ///
+    /// [`Refusal::STALE_SUBMISSION`] changes the sender at or past the deadline, which acts first.
     ///
     /// ```
     /// # use catkhize::*;
@@ -301,6 +321,9 @@ impl<'a> Sender<'a> {
     }
 
     /// Takes a response of the peer, with the number of bits that its decoding left unparsed.
+    ///
+    /// [`Refusal::CLOSED`] changes the sender where the deadline has passed and closes it. A response at the deadline itself is taken, and
+    /// the deadline acts after it.
     ///
     /// ```
     /// # use catkhize::*;

@@ -305,7 +305,7 @@ fn senders_end() {
     assert!(untouched(&state));
 }
 
-/// Every buffer empty: each entry refuses with 80, and nothing is read or written.
+/// Every buffer empty: each entry refuses with 256, and nothing is read or written.
 #[test]
 fn empty_buffers() {
     let none = &mut [][..];
@@ -409,4 +409,105 @@ fn full_message() {
         }
     }
     assert_eq!(receiver.stored_octets(), 65_280);
+}
+
+/// The exports' own refusals, as numbers and in words.
+#[test]
+fn own_refusals() {
+    let own = [65_536, 65_792, 66_048].map(refusal);
+    let named = [
+        Refusal::BUFFER_TOO_SHORT,
+        Refusal::BUFFER_SPELLS_NONE,
+        Refusal::NUMBER_NAMES_NONE,
+    ];
+    assert_eq!(own, named);
+    assert!(own.iter().all(|refusal| refusal.is_own()));
+    assert!((256..65_536).all(|given| !refusal(given).is_own()));
+    assert_eq!(format!("{:?}", own[1]), "Refusal(257 BufferSpellsNone)");
+    let closed: Result<(), Refusal> = Err(refusal(9728));
+    assert_eq!(format!("{closed:?}"), "Err(Refusal(38 Closed))");
+}
+
+fn decoded(octets: &[u8]) -> DecodedSegment<'_> {
+    decode_segment(octets, 1).expect("a right segment")
+}
+
+fn planned(window: AcknowledgmentWindow) -> SegmentedMessage<'static> {
+    let Ok(MessagePlan::Segmented(plan)) = plan_message(MESSAGE, 6, 2, window, 1, 6) else {
+        panic!("7 octets are more than 6");
+    };
+    plan
+}
+
+/// The refusals that change a receiver: past the deadline under Prohibited, and an unheld sequence when Complete.
+#[test]
+fn late_receivers() {
+    let new = || Receiver::try_new(PEER, PROTOCOL, 0, 1, 100, 0).expect("a right peer");
+    let mut receiver = new();
+    let begin = receiver.receive(PEER, PROTOCOL, &decoded(&[0, 0, 0]), 0);
+    assert!(begin.is_ok());
+    let late = receiver.receive(PEER, PROTOCOL, &decoded(&[8, 1, 0]), 300_001);
+    assert_eq!(late, Err(Refusal::CLOSED));
+    assert_eq!(receiver.state(), ReceiverState::Expired);
+
+    let mut receiver = new();
+    for (octets, reading) in [([0, 0, 0], 0), ([16, 1, 0], 1)] {
+        let taken = receiver.receive(PEER, PROTOCOL, &decoded(&octets), reading);
+        assert!(taken.is_ok());
+    }
+    let unheld = receiver.receive(PEER, PROTOCOL, &decoded(&[8, 2, 0]), 9);
+    assert_eq!(unheld, Err(Refusal::CLOSED));
+    assert_eq!(receiver.state(), ReceiverState::Complete);
+    assert_eq!(receiver.advance(8), Err(Refusal::CLOCK_REGRESSION));
+    assert_eq!(receiver.advance(9), Ok(None));
+}
+
+/// The refusals that change a sender: the late 44, 42 and 38.
+#[test]
+fn late_senders() {
+    let failed = SenderState::Failed(SenderFailure::SegmentInterval);
+    let prohibited = planned(AcknowledgmentWindow::Prohibited);
+    let new = || Sender::try_new(PEER, PROTOCOL, &prohibited, 1, 9, 0).expect("a right plan");
+    let offered = |sender: &Sender<'static>| sender.submission().ok().flatten().expect("an offer");
+
+    let mut sender = new();
+    let first = offered(&sender);
+    assert!(sender.submitted(&first, 5, 5).is_ok());
+    assert_eq!(sender.accepted(&first, 6), Ok(SenderState::Prepared));
+    let late = sender.submitted(&offered(&sender), 330_005, 330_006);
+    assert_eq!((late, sender.state()), (Err(Refusal::RECEIPT_TIME), failed));
+
+    let mut sender = new();
+    assert!(sender.submitted(&first, 5, 5).is_ok());
+    let late = sender.accepted(&first, 330_005);
+    assert_eq!(
+        (late, sender.state()),
+        (Err(Refusal::STALE_SUBMISSION), failed)
+    );
+
+    let mut sender = new();
+    assert!(sender.submitted(&first, 5, 5).is_ok());
+    let late = sender.lower_failed(&first, LowerLayerFailure::TimedOut, 330_005);
+    assert_eq!(
+        (late, sender.state()),
+        (Err(Refusal::STALE_SUBMISSION), failed)
+    );
+
+    let exceptions = planned(AcknowledgmentWindow::Exceptions);
+    let made = Sender::try_new(PEER, PROTOCOL, &exceptions, 1, 9, 0);
+    let mut sender = made.expect("a right plan");
+    for _ in 0..3 {
+        let submission = offered(&sender);
+        assert!(sender.submitted(&submission, 5, 5).is_ok());
+        assert!(sender.accepted(&submission, 5).is_ok());
+    }
+    let response = Response {
+        transaction_id: 2,
+        status: Status::Continuing,
+        acknowledgments: AcknowledgmentMap::try_new(&[true; 3]).expect("three entries"),
+        optional_services_support: None,
+    };
+    let late = sender.receive_response(PEER, PROTOCOL, &response, 0, 330_006);
+    let elapsed = SenderState::Complete(Completion::ExceptionIntervalElapsed);
+    assert_eq!((late, sender.state()), (Err(Refusal::CLOSED), elapsed));
 }

@@ -1,8 +1,9 @@
-//! The corners of document 01 and the boundary of each refusal, run on the exports and compared with what document 01 says, a line for each
-//! group. A case that comes out otherwise is printed, and the status is then 1.
+//! The corners of document 01 and the boundary of each refusal, run on the exports and compared with what document 01 says (docs/EXPORTS.md
+//! of the exports' own refusals), a line for each group. A case that comes out otherwise is printed, and the status is then 1.
 
 mod codec;
 mod octets;
+mod own;
 mod plan;
 mod receiver;
 mod sender;
@@ -17,6 +18,7 @@ fn main() -> ExitCode {
     plan::corners(&mut tally);
     receiver::corners(&mut tally);
     sender::corners(&mut tally);
+    own::corners(&mut tally);
     if tally.differ == 0 {
         ExitCode::SUCCESS
     } else {
