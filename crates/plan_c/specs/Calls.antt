@@ -1,6 +1,6 @@
 -- What catkhize_plan_message, catkhize_plan_segment and catkhize_try_from_frozen give and leave in each lent buffer: the exports' own tests,
 -- then the definitions of the planner and of the frozen check. A plan comes out as a sender's plan.
-use mathlib.Core.Bool.{Bool, not}
+use mathlib.Core.Bool.{Bool, not, cond}
 use mathlib.Core.List.{List, [], _∷_}
 use mathlib.Core.Option.{Option, none, some}
 use Prim.Native.Nat.{ℕ}
@@ -25,17 +25,23 @@ use Rattle.plan_image.specs.Plans.{planImage, planOf, planOk}
 
 -- ---- a call that writes a plan
 
--- the number that the call gives, and the plan's octets after it
+-- the number that the call gives; the plan's octets after it, and the plan that these spell
 pub record PlanCall : Type 0 where
   pub code : ℕ
   pub plan : List ℕ
+  pub spelled : Option Plan
 
+-- the plan that octets spell, if they spell one
+unfoldable pub spelledBy : List ℕ → Option Plan
+spelledBy plan = cond (planOk plan) (some (planOf plan)) none
+
+-- a call as code makes it
 abbrev pub planCall : ℕ → List ℕ → PlanCall
-planCall n plan = record { code = n; plan = plan }
+planCall n plan = record { code = n; plan = plan; spelled = spelledBy plan }
 
--- the plan p is written
+-- the plan p is written, and spelled then
 abbrev pub planWritten : Plan → List ℕ → PlanCall
-planWritten p plan = planCall 0 (sets plan 0 (planImage p))
+planWritten p plan = record { code = 0; plan = sets plan 0 (planImage p); spelled = some p }
 
 -- ---- catkhize_plan_message
 

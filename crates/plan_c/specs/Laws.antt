@@ -1,9 +1,11 @@
--- Laws of what the exported planner gives: a call that its own tests refuse, and one that they let pass. Assumes nothing.
+-- Laws of what the exported planner gives: a plan that is written, a call that its own tests refuse, and one that they let pass. Assumes nothing.
 use mathlib.Core.Path.{_≡_, sym, ap, _∙_}
+use mathlib.Core.Bool.{Bool, cond}
 use mathlib.Core.List.{List}
 use mathlib.Core.Option.{Option, none, some}
-use Prim.Native.Nat.{ℕ}
+use Prim.Native.Nat.{ℕ, _≤_}
 use lib.ListN.{length}
+use lib.Seq.{sets}
 use Rattle.tsar.specs.Rows.{Refusal, refusal}
 use Rattle.tsar.specs.declared.AcknowledgmentWindow.{AcknowledgmentWindow}
 use Rattle.tsar.specs.declared.SegmentHead.{SegmentHead}
@@ -12,11 +14,26 @@ use Rattle.segmentation.specs.Frozen.{Proposal, Checked, tryFromFrozen}
 use Rattle.segmentation.specs.declared.PlannedSegment.{PlannedSegment}
 use Rattle.sender.specs.TryNew.{planSegment}
 use Rattle.sender.specs.declared.Plan.{Plan}
+use Rattle.image.specs.Spelling.{put-spells}
 use Rattle.image.specs.Cases.{windowOf}
 use Rattle.codec_c.specs.Codes.{codeOf, unlessRefused}
 use Rattle.plan_image.specs.Frozen.{headsOf}
-use Rattle.plan_image.specs.Plans.{planOf}
-use Rattle.plan_c.specs.Calls.{planCall, planningGives, messageTests, planMessageCall, partCall, segmentGives, segmentTests, planSegmentCall, checkGives, frozenTests, proposal, tryFromFrozenCall}
+use Rattle.plan_image.specs.Plans.{planImage, planOf, PlanFits, plan-layout}
+use Rattle.plan_c.specs.Calls.{spelledBy, planCall, planWritten, planningGives, messageTests, planMessageCall, partCall, segmentGives, segmentTests, planSegmentCall, checkGives, frozenTests, proposal, tryFromFrozenCall}
+
+-- ---- a plan that is written
+
+-- octets into whose front a plan is put spell it
+pub spelled : (plan i : List ℕ) (p : Plan) → 5958 ≤ length plan → PlanFits p → i ≡ sets plan 0 (planImage p) → spelledBy i ≡ some p
+unfolding spelledBy
+spelled plan i p room fits e =
+    let w = put-spells plan-layout plan p i room fits e in
+    ap (λ (b : Bool). cond b (some (planOf i)) none) (w .1) ∙ ap some (w .0)
+
+pub writes : (plan i : List ℕ) (p : Plan) → 5958 ≤ length plan → PlanFits p → i ≡ sets plan 0 (planImage p) → planCall 0 i ≡ planWritten p plan
+writes plan i p room fits e =
+    let w = spelled plan i p room fits e in
+    λ k. record { code = 0; plan = e k; spelled = w k }
 
 -- ---- catkhize_plan_message
 

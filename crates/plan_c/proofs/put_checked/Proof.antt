@@ -1,4 +1,5 @@
--- `plan_c::put_checked` meets its contract: nothing is written beside a refusal, and else the plan as a sender has it. Assumes nothing.
+-- `plan_c::put_checked` meets its contract: nothing is written beside a refusal, and else the plan as a sender has it, which its
+-- octets then spell. Assumes nothing.
 use borrow.Author.Needs.{needs}
 use mathlib.Core.Path.{sym, ap, _∙_}
 use Prim.Native.Nat.{ℕ}
@@ -7,6 +8,7 @@ use Rattle.segmentation.specs.Frozen.{answerBy}
 use Rattle.segmentation.specs.declared.FrozenAnswer.{FrozenAnswer}
 use Rattle.sender.specs.declared.Plan.{Plan}
 use Rattle.plan_c.specs.Calls.{planCall, planWritten, frozenGives}
+use Rattle.plan_c.specs.Laws.{writes}
 use Rattle.plan_c.proofs.put_checked.Statement.{statement}
 use Rattle.plan_c.proofs.put_checked.Tie as tie
 
@@ -36,10 +38,12 @@ same-length c = search needs
 
 returns-2 : tie.Need-returns-2
 returns-2 c =
-    let x = c .before .before .before .before .before .before .before .before .before .args in
-    ap (planCall 0) (c .before .before .put-plan .ensures .0)
-    ∙ ap (λ (p : Plan). planWritten p (now (x .plan))) (c .before .before .before .frozen2 .ensures)
-    ∙ ap (λ (a : FrozenAnswer). frozenGives (answerBy a) (x .checked .plan) (now (x .plan))) (sym (c .before .before .before .before .before .before .enum-told .given .1))
+    let x = c .before .before .before .before .before .before .before .before .before in
+    let plan = now (x .args .plan) in
+    let put = c .before .before .put-plan .ensures in
+    writes plan _ _ (x .pre) (put .1) (put .0)
+    ∙ ap (λ (p : Plan). planWritten p plan) (c .before .before .before .frozen2 .ensures)
+    ∙ ap (λ (a : FrozenAnswer). frozenGives (answerBy a) (x .args .checked .plan) plan) (sym (c .before .before .before .before .before .before .enum-told .given .1))
 
 pub put-checked-spec : {M : Type 1} → statement M
 put-checked-spec =

@@ -1,5 +1,5 @@
--- `plan_c::put_planning` meets its contract: nothing is written beside Unsegmented and a refusal, and else the plan as a sender has it.
--- Assumes nothing.
+-- `plan_c::put_planning` meets its contract: nothing is written beside Unsegmented and a refusal, and else the plan as a sender has it,
+-- which its octets then spell. Assumes nothing.
 use borrow.Author.Needs.{needs}
 use mathlib.Core.Path.{sym, ap, _∙_}
 use Prim.Native.Nat.{ℕ}
@@ -8,6 +8,7 @@ use Rattle.segmentation.specs.Plan.{plannedBy}
 use Rattle.segmentation.specs.declared.MessagePlan.{MessagePlan}
 use Rattle.sender.specs.declared.Plan.{Plan}
 use Rattle.plan_c.specs.Calls.{planCall, planWritten, planningGives}
+use Rattle.plan_c.specs.Laws.{writes}
 use Rattle.plan_c.proofs.put_planning.Statement.{statement}
 use Rattle.plan_c.proofs.put_planning.Tie as tie
 
@@ -45,10 +46,12 @@ same-length c = search needs
 
 returns-3 : tie.Need-returns-3
 returns-3 c =
-    let x = c .before .before .before .before .before .before .before .before .before .args in
-    ap (planCall 0) (c .before .before .put-plan .ensures .0)
-    ∙ ap (λ (p : Plan). planWritten p (now (x .plan))) (c .before .before .before .planned .ensures)
-    ∙ ap (λ (g : MessagePlan). planningGives (plannedBy g) (now (x .plan))) (sym (c .before .before .before .before .before .before .given2 .given .1))
+    let x = c .before .before .before .before .before .before .before .before .before in
+    let plan = now (x .args .plan) in
+    let put = c .before .before .put-plan .ensures in
+    writes plan _ _ (x .pre) (put .1) (put .0)
+    ∙ ap (λ (p : Plan). planWritten p plan) (c .before .before .before .planned .ensures)
+    ∙ ap (λ (g : MessagePlan). planningGives (plannedBy g) plan) (sym (c .before .before .before .before .before .before .given2 .given .1))
 
 pub put-planning-spec : {M : Type 1} → statement M
 put-planning-spec =

@@ -1,0 +1,114 @@
+-- The law of plans: what catkhize_plan_message or catkhize_try_from_frozen wrote, given to catkhize_plan_segment and catkhize_sender_new. Assumes nothing.
+use mathlib.Core.Path.{_≡_, refl, sym, ap, subst, _∙_}
+use mathlib.Core.Bool.{Bool, true}
+use mathlib.Core.List.{List, []}
+use mathlib.Core.Option.{Option, none, some}
+use Prim.Native.Nat.{ℕ}
+use native.Mathlib.Omega.{arith}
+use lib.ListN.{length}
+use Rattle.tsar.specs.Rows.{Refusal, refusal, refusal-none}
+use Rattle.segmentation.specs.Plan.{Planning, unsegmented, refused, segmented, planMessage}
+use Rattle.segmentation.specs.Frozen.{Proposal, Checked, tryFromFrozen}
+use Rattle.segmentation.specs.declared.FrozenMessage.{FrozenMessage}
+use Rattle.segmentation.specs.declared.PlannedSegment.{PlannedSegment}
+use Rattle.segmentation.specs.declared.PlannedSegment.the-variants.{NoSegment, Segment}
+use Rattle.sender.specs.TryNew.{planSegment}
+use Rattle.image.specs.Cases.{windowOf}
+use Rattle.codec_c.specs.Codes.{unlessRefused}
+use Rattle.plan_image.specs.Plans.{planOf, planOk}
+use Rattle.plan_c.specs.Calls.{PlanCall, spelledBy, planCall, planningGives, messageTests, planMessageCall, PartCall, partCall, segmentGives, segmentTests, planSegmentCall, frozenGives, checkGives, frozenTests, proposal, tryFromFrozenCall}
+use Rattle.sender_c.specs.Calls as sender
+use Rattle.two_calls.specs.TwoCalls.{NeverMisspelled, PlanMade, planned, checked, PlanRead, segment, sender-new}
+use Rattle.two_calls.proofs.Passing.{both, twice, not-false-is, isSome, cond-some, refusal-passes, passes, other, notDone, fine, fine-not-done, call-done}
+use Rattle.two_calls.proofs.Numbers.{finePlanning, planning-fine, frozen-fine}
+use Rattle.two_calls.proofs.SenderNumbers.{answer-other, sender-new-fine}
+use Rattle.two_calls.proofs.Behaving.{Behaves, never-misspelled, by-contract}
+
+spelled-some : (plan : List ℕ) → isSome (spelledBy plan) ≡ planOk plan
+unfolding spelledBy
+spelled-some plan = cond-some (planOk plan) (planOf plan)
+
+-- ---- what is written
+
+-- a call past its tests that gives 0 leaves what it spells
+spelled-by : (tests : List (Bool × Refusal)) (before plan : List ℕ) (done c : PlanCall) → passes notDone (refusal tests) ≡ true → c ≡ unlessRefused (refusal tests) (λ n. planCall n before) done
+    → planCall 0 plan ≡ c → (done .code ≡ 0 → isSome (done .spelled) ≡ true) → planOk plan ≡ true
+spelled-by tests before plan done c f d e w =
+    let q : planCall 0 plan ≡ unlessRefused (refusal tests) (λ n. planCall n before) done = e ∙ d in
+    let z = call-done (λ (k : PlanCall). k .code) (λ n. planCall n before) done (λ n. refl) (refusal tests) f (sym (ap (λ (k : PlanCall). k .code) q)) in
+    sym (spelled-some plan) ∙ ap (λ (k : PlanCall). isSome (k .spelled)) q
+    ∙ ap (λ (o : Option Refusal). isSome (unlessRefused o (λ n. planCall n before) done .spelled)) (z .0)
+    ∙ w (z .1)
+
+planning-spells : (p : Planning) (before : List ℕ) → finePlanning p ≡ true → planningGives p before .code ≡ 0 → isSome (planningGives p before .spelled) ≡ true
+planning-spells unsegmented before f e = absurd (omega arith)
+planning-spells (refused x) before f e = absurd (fine-not-done x f e)
+planning-spells (segmented p) before f e = refl
+
+frozen-spells : (o : Option Refusal) (f : FrozenMessage) (before : List ℕ) → passes fine o ≡ true → frozenGives o f before .code ≡ 0 → isSome (frozenGives o f before .spelled) ≡ true
+frozen-spells none f before p e = refl
+frozen-spells (some x) f before p e = absurd (fine-not-done x p e)
+
+message-done : (message : List ℕ) (budget transaction window version ceiling : ℕ) (before plan : List ℕ)
+    → planCall 0 plan ≡ planMessageCall message budget transaction window version ceiling before → planOk plan ≡ true
+unfolding planMessageCall
+message-done message budget transaction window version ceiling before plan e =
+    let p : Planning = planMessage (length message) budget transaction (windowOf window) version ceiling in
+    spelled-by (messageTests window before) before plan (planningGives p before) (planMessageCall message budget transaction window version ceiling before)
+    (refusal-passes notDone (messageTests window before) refl)
+    refl
+    e
+    (planning-spells p before (planning-fine (length message) budget transaction (windowOf window) version ceiling))
+
+check-done : (heads : List ℕ) (count : ℕ) (joined message : List ℕ) (budget version ceiling : ℕ) (before plan : List ℕ)
+    → planCall 0 plan ≡ tryFromFrozenCall heads count joined message budget version ceiling before → planOk plan ≡ true
+unfolding tryFromFrozenCall
+check-done heads count joined message budget version ceiling before plan e =
+    let q : Proposal = proposal heads count joined message budget version ceiling in
+    let k : Checked = tryFromFrozen q in
+    spelled-by (frozenTests heads before) before plan (checkGives k before) (tryFromFrozenCall heads count joined message budget version ceiling before)
+    (refusal-passes notDone (frozenTests heads before) refl)
+    refl
+    e
+    (frozen-spells (k .refused) (k .plan) before (frozen-fine q))
+
+made-ok : (plan : List ℕ) → PlanMade plan 0 → planOk plan ≡ true
+made-ok plan (planned message budget transaction window version ceiling before e) = message-done message budget transaction window version ceiling before plan e
+made-ok plan (checked heads count joined message budget version ceiling before e) = check-done heads count joined message budget version ceiling before plan e
+
+-- ---- what is read
+
+segment-other : (s : PlannedSegment) (answer : List ℕ) → other (segmentGives s answer .code) ≡ true
+segment-other NoSegment answer = refl
+segment-other (Segment p) answer = refl
+
+segment-behaves : (others : Bool) (plan : List ℕ) (n index : ℕ) (answer answer′ : List ℕ) → partCall n answer′ ≡ planSegmentCall plan index answer → Behaves planOk others plan n plan
+unfolding planSegmentCall
+segment-behaves others plan n index answer answer′ e =
+    let tests : List (Bool × Refusal) = segmentTests plan answer in
+    let reads : refusal tests ≡ none → planOk plan ≡ true = λ h. not-false-is (planOk plan) (refusal-none tests h 2) in
+    by-contract planOk plan tests (λ (c : PartCall). c .code) (λ c. plan) (λ m. partCall m answer) (segmentGives (planSegment (planOf plan) index) answer) (λ m. refl) (λ m. refl)
+    (partCall n answer′) e others refl reads (λ q p. both _ _ (twice p) refl) (segment-other (planSegment (planOf plan) index) answer) reads
+
+new-behaves : (others : Bool) (plan : List ℕ) (n : ℕ) (image : List ℕ) (kind width value protocol octet : ℕ) (message : List ℕ) (version number reading : ℕ) (image′ : List ℕ)
+    → sender.call n image′ []
+    ≡ sender.newCall (sender.newTests image protocol plan) image (sender.newStep (sender.termsOf kind width value protocol octet version number) plan message reading)
+    → Behaves planOk others plan n plan
+unfolding sender.newCall
+new-behaves others plan n image kind width value protocol octet message version number reading image′ e =
+    let tests : List (Bool × Refusal) = sender.newTests image protocol plan in
+    let terms = sender.termsOf kind width value protocol octet version number in
+    let step = sender.newStep terms plan message reading in
+    let reads : refusal tests ≡ none → planOk plan ≡ true = λ h. not-false-is (planOk plan) (refusal-none tests h 2) in
+    by-contract planOk plan tests (λ (c : sender.Call). c .code) (λ c. plan) (λ m. sender.call m image []) (sender.madeCall image step) (λ m. refl) (λ m. refl)
+    (sender.call n image′ []) e others refl reads (λ q p. both _ _ (twice p) refl) (answer-other (step .answer) (sender-new-fine terms (planOf plan) message reading)) reads
+
+behaves : (others : Bool) (before : List ℕ) (n : ℕ) (after : List ℕ) → PlanRead others before n after → Behaves planOk others before n after
+behaves others before n after (segment index answer answer′ p e) =
+    subst (λ (l : List ℕ). Behaves planOk others before n l) (sym p) (segment-behaves others before n index answer answer′ e)
+behaves others before n after (sender-new image kind width value protocol octet message version number reading image′ p m) =
+    subst (λ (l : List ℕ). Behaves planOk others before n l) (sym p)
+    (new-behaves others before n image kind width value protocol octet message version number reading image′ (m .0))
+
+pub plan-next : NeverMisspelled PlanMade PlanRead
+plan-next = never-misspelled PlanMade PlanRead planOk made-ok behaves

@@ -1,0 +1,2 @@
+-- Two calls of the exports in a row, for their users.
+pub mod TwoCalls
