@@ -205,7 +205,7 @@ extern "C" {
 #define CATKHIZE_RECEPTION_AT_RESPONSE 1u
 #define CATKHIZE_RECEPTION_AT_HANDED_OVER 42u
 #define CATKHIZE_RECEPTION_AT_MESSAGE_OCTETS 43u /* 64 bits */
-/* TRAIN: how many segments were received, then the RECEPTION of the last of them. */
+/* TRAIN: how many segments were received, then the RECEPTION of the last, all 0 beside a refusal. */
 #define CATKHIZE_TRAIN_AT_RECEIVED 0u /* 64 bits */
 #define CATKHIZE_TRAIN_AT_RECEPTION 8u
 
@@ -486,10 +486,16 @@ uint32_t catkhize_receiver_cancel(
     uint64_t reading);
 
 /* Takes a train: segments one after another in octets, each with its number of octets in lengths (16 bits
- * each). Each is decoded under the record's version and received, all with the same reading; it stops at
- * the first that is refused and gives that refusal. The answer is then written too, and the record spells
- * what the segments before the stop, and a refusal that changes the record, made of it. A length past the
- * octets takes what is left of them; an odd last octet of lengths is passed over. */
+ * each). Each is decoded under the record's version and received, all with the same reading. It stops:
+ *  - behind a segment whose reception carries a response or a message, or leaves a receiver that takes
+ *    no segments (a reception that fails under Prohibited answers nothing: read the state). It gives
+ *    CATKHIZE_DONE, and the answer has that reception; those before it carried nothing.
+ *  - at the first that is refused, and gives that refusal. The answer is then written too, with an empty
+ *    reception, and the record spells what the segments before it, and a refusal that changes the record,
+ *    made of it.
+ * The answer counts the segments received. While the call gives CATKHIZE_DONE and some are left, send the
+ * response, take the message and call again with the octets and lengths behind those received: nothing is
+ * lost. A length past the octets takes what is left of them; an odd last octet of lengths is passed over. */
 uint32_t catkhize_receiver_train(
     uint8_t *record, size_t record_octets, /* RECEIVER */
     uint8_t *store, size_t store_octets,

@@ -264,26 +264,62 @@ static void test_receiver_time(void) {
     CHECK(receive(segment, message, 1, 300000) == CATKHIZE_REFUSED_CLOSED);
 }
 
+static uint32_t take_train(const uint8_t *octets, size_t octets_octets, const uint8_t *lengths, size_t lengths_octets) {
+    fill(answer, sizeof answer);
+    return catkhize_receiver_train(record, sizeof record, store, sizeof store, output, sizeof output, PEER, PROTOCOL, octets, octets_octets, lengths,
+        lengths_octets, 7, answer, sizeof answer);
+}
+
 static void test_train(void) {
-    static const uint8_t octets[12] = {0x02, 0x00, 0x01, 0x41, 0x12, 0x01, 0x01, 0x42, 0x0a, 0x02, 0x01, 0x43};
-    uint8_t lengths[6];
+    static const uint8_t octets[16] = {0x02, 0x00, 0x01, 0x41, 0x12, 0x01, 0x01, 0x42, 0x12, 0x01, 0x01, 0x42, 0x0a, 0x02, 0x01, 0x43};
+    uint8_t lengths[8];
     catkhize_put16(lengths, 4);
     catkhize_put16(lengths + 2, 4);
-    catkhize_put16(lengths + 4, 9);
+    catkhize_put16(lengths + 4, 4);
+    catkhize_put16(lengths + 6, 9);
+
+    /* It stops behind the message; the third segment repeats the second, and the fourth is refused. */
     new_receiver(0);
-    fill(answer, sizeof answer);
-    CHECK(catkhize_receiver_train(record, sizeof record, store, sizeof store, output, sizeof output, PEER, PROTOCOL, octets, sizeof octets,
-              lengths, 4, 7, answer, sizeof answer) == CATKHIZE_DONE);
+    CHECK(take_train(octets, sizeof octets, lengths, sizeof lengths) == CATKHIZE_DONE);
     CHECK(catkhize_get64(answer + CATKHIZE_TRAIN_AT_RECEIVED) == 2);
+    CHECK(answer[CATKHIZE_TRAIN_AT_RECEPTION + CATKHIZE_RECEPTION_AT_PRESENT] == 0);
     CHECK(answer[CATKHIZE_TRAIN_AT_RECEPTION + CATKHIZE_RECEPTION_AT_HANDED_OVER] == 1);
+    CHECK(catkhize_get64(answer + CATKHIZE_TRAIN_AT_RECEPTION + CATKHIZE_RECEPTION_AT_MESSAGE_OCTETS) == 2);
     CHECK(output[0] == 0x41 && output[1] == 0x42 && untouched(output + 2, sizeof output - 2));
     CHECK(untouched(answer + CATKHIZE_TRAIN_OCTETS, sizeof answer - CATKHIZE_TRAIN_OCTETS));
-
-    new_receiver(0);
-    CHECK(catkhize_receiver_train(record, sizeof record, store, sizeof store, output, sizeof output, PEER, PROTOCOL, octets, sizeof octets,
-              lengths, 6, 7, answer, sizeof answer) == CATKHIZE_REFUSED_CLOSED);
-    CHECK(catkhize_get64(answer + CATKHIZE_TRAIN_AT_RECEIVED) == 2);
+    CHECK(take_train(octets + 8, sizeof octets - 8, lengths + 4, sizeof lengths - 4) == CATKHIZE_REFUSED_CLOSED);
+    CHECK(catkhize_get64(answer + CATKHIZE_TRAIN_AT_RECEIVED) == 1);
+    CHECK(zero(answer + CATKHIZE_TRAIN_AT_RECEPTION, CATKHIZE_RECEPTION_OCTETS));
     CHECK(record[CATKHIZE_RECEIVER_AT_STATE] == CATKHIZE_RECEIVER_COMPLETE);
+
+    /* Fewer segments than it needs: all are received, and nothing is carried. */
+    new_receiver(0);
+    CHECK(take_train(octets, 4, lengths, 2) == CATKHIZE_DONE);
+    CHECK(catkhize_get64(answer + CATKHIZE_TRAIN_AT_RECEIVED) == 1);
+    CHECK(zero(answer + CATKHIZE_TRAIN_AT_RECEPTION, CATKHIZE_RECEPTION_OCTETS));
+}
+
+/* A train under Every4, gone on with behind each stop: the fourth segment is answered, and the last hands over. */
+static void test_train_goes_on(void) {
+    static const uint8_t octets[26] = {0x02, 0x00, 0x01, 0x41, 0x20, 0x08, 0x0a, 0x01, 0x01, 0x42, 0x0a, 0x02, 0x01, 0x43, 0x0a, 0x03, 0x01, 0x44,
+        0x0a, 0x04, 0x01, 0x45, 0x12, 0x05, 0x01, 0x46};
+    static const uint8_t lengths[12] = {0, 6, 0, 4, 0, 4, 0, 4, 0, 4, 0, 4};
+    static const uint64_t behind[2] = {4, 6};
+    size_t at = 0, received = 0, stops = 0;
+    new_receiver(0);
+    while (received < 6 && stops < 2) {
+        size_t until;
+        CHECK(take_train(octets + at, sizeof octets - at, lengths + 2 * received, sizeof lengths - 2 * received) == CATKHIZE_DONE);
+        until = received + (size_t)catkhize_get64(answer + CATKHIZE_TRAIN_AT_RECEIVED);
+        for (; received < until; received++)
+            at += catkhize_get16(lengths + 2 * received);
+        CHECK(received == behind[stops]);
+        CHECK(answer[CATKHIZE_TRAIN_AT_RECEPTION + CATKHIZE_RECEPTION_AT_PRESENT] == 1);
+        CHECK(answer[CATKHIZE_TRAIN_AT_RECEPTION + CATKHIZE_RECEPTION_AT_HANDED_OVER] == (received == 6));
+        stops++;
+    }
+    CHECK(stops == 2);
+    CHECK(memcmp(output, "ABCDEF", 6) == 0 && untouched(output + 6, sizeof output - 6));
 }
 
 #define NUMBER 77u
@@ -386,6 +422,7 @@ static void run(void) {
     test_receiver();
     test_receiver_time();
     test_train();
+    test_train_goes_on();
     test_sender();
     test_sender_ends();
 }

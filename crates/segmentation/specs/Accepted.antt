@@ -1,5 +1,5 @@
 -- What the frozen check accepts, whoever proposed it: exactly the true cuttings of the message whose segments the codec writes and the budget
--- holds; and what it refuses, by which row. Assumes nothing.
+-- holds. Assumes nothing.
 use Prim.Native.Nat.{ℕ, zero, suc, _+_, _-_, _≤_, _<_}
 use mathlib.Core.Path.{_≡_, refl, sym, ap, ap₂, _∙_, subst}
 use mathlib.Core.List.{List, [], _∷_, _++_}

@@ -1,6 +1,7 @@
 -- Laws of trains: one segment after another, parts of octets, and the two ways in which the call returns. Assumes nothing.
 use mathlib.Core.Path.{_≡_, refl, sym, ap, ap₂, _∙_}
 use mathlib.Core.Logic.{⊎-elim}
+use mathlib.Core.Bool.{Bool, true, false, cond}
 use mathlib.Core.List.{List}
 use mathlib.Core.Option.{Option, none, some}
 use Prim.Native.Nat.{ℕ, suc, _+_, _-_, _*_, _/_, _≤_, _<_, min}
@@ -29,7 +30,7 @@ use Rattle.image.specs.Numbers.{spell, numberOf, length-spell}
 use Rattle.image.specs.Cases.{protocolOf}
 use Rattle.receiver_image.specs.Images.{imageOf, recordOf, ReceiverFits, receiver-layout}
 use Rattle.receiver_answers.specs.Answers.{receptionImage}
-use Rattle.train_c.specs.Walk.{Train, train, segmentsOf, startOf, decodedStep, trainStep, trainOf, after}
+use Rattle.train_c.specs.Walk.{Train, train, segmentsOf, startOf, stops, decodedStep, trainStep, trainOf, after}
 use Rattle.train_c.specs.Calls.{Asked, call, trainTests, trainAsked, trainImage, trainDone, trainCall, Met}
 
 -- ---- parts of octets, as far as they go
@@ -122,10 +123,22 @@ train-stops go t s whole n k p e q =
     ap (λ (x : ℕ). train x (s .receiver) (s .store) (s .output) (t .received) (t .response) (t .message)) q
     ∙ ap (λ (a : Answer). after go t a (s .receiver) (s .store) (s .output)) (sym e) ∙ p
 
--- and one that is answered lets it go on
-pub train-goes : (go : Train → Train) (t : Train) (s : Step) (whole : Train) (x : Option Response) (m : Option ℕ) → after go t (s .answer) (s .receiver) (s .store) (s .output) ≡ whole
-    → s .answer ≡ answered x m → go (train 0 (s .receiver) (s .store) (s .output) (t .received + 1) x m) ≡ whole
-train-goes go t s whole x m p e = ap (λ (a : Answer). after go t a (s .receiver) (s .store) (s .output)) (sym e) ∙ p
+-- one that is answered leaves the train this way, whether it then stops or goes on
+module _ (go : Train → Train) (t : Train) (s : Step) (whole : Train) (x : Option Response) (m : Option ℕ) (p : after go t (s .answer) (s .receiver) (s .store) (s .output) ≡ whole) (e : s .answer ≡ answered x m) where
+  pub answered-next : cond (stops x m (s .receiver)) (train 0 (s .receiver) (s .store) (s .output) (t .received + 1) x m) (go (train 0 (s .receiver) (s .store) (s .output) (t .received + 1) x m)) ≡ whole
+  answered-next = ap (λ (a : Answer). after go t a (s .receiver) (s .store) (s .output)) (sym e) ∙ p
+
+  -- a reception that ends the train
+  pub train-carries : stops x m (s .receiver) ≡ true → train 0 (s .receiver) (s .store) (s .output) (t .received + 1) x m ≡ whole
+  train-carries q =
+      ap (λ (b : Bool). cond b (train 0 (s .receiver) (s .store) (s .output) (t .received + 1) x m) (go (train 0 (s .receiver) (s .store) (s .output) (t .received + 1) x m))) (sym q)
+      ∙ answered-next
+
+  -- and one that lets it go on
+  pub train-goes : stops x m (s .receiver) ≡ false → go (train 0 (s .receiver) (s .store) (s .output) (t .received + 1) x m) ≡ whole
+  train-goes q =
+      ap (λ (b : Bool). cond b (train 0 (s .receiver) (s .store) (s .output) (t .received + 1) x m) (go (train 0 (s .receiver) (s .store) (s .output) (t .received + 1) x m))) (sym q)
+      ∙ answered-next
 
 -- ---- the call
 

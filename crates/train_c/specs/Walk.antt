@@ -1,6 +1,8 @@
--- What a train does: its segments are decoded under the record's version and received one after another, up to the first that is refused.
+-- What a train does: its segments are decoded under the record's version and received one after another, up to the first that is refused, or
+-- whose reception carries a response or a message, or that leaves a receiver that takes no segments.
+use mathlib.Core.Bool.{Bool, true, false, cond, not, _||_}
 use mathlib.Core.List.{List, [], _∷_}
-use mathlib.Core.Option.{Option, none}
+use mathlib.Core.Option.{Option, none, some}
 use Prim.Native.Nat.{ℕ, zero, suc, _+_}
 use lib.ListN.{take, drop}
 use Rattle.tsar.specs.Layout.{WholeSegment}
@@ -9,6 +11,7 @@ use Rattle.link.specs.declared.MobileIdentity.{MobileIdentity}
 use Rattle.link.specs.declared.HigherLayerProtocol.{HigherLayerProtocol}
 use Rattle.response.specs.declared.Response.{Response}
 use Rattle.receiver.specs.declared.Receiver.{Receiver}
+use Rattle.receiver.specs.Record.{taking}
 use Rattle.receiver.specs.Answers.{Answer, refused, answered, Step, refuses}
 use Rattle.receiver.specs.Receive.{Arrival, receiveOf}
 use Rattle.receiver.specs.Says.{replySays, messageSays}
@@ -40,10 +43,22 @@ train code r store output n response message =
 abbrev pub startOf : Receiver → List ℕ → List ℕ → Train
 startOf r store output = train 0 r store output 0 none none
 
--- what a segment's step makes of it: a refusal ends it, else it goes on
+-- whether a reception carries anything: a response, or a message
+abbrev pub carries : Option Response → Option ℕ → Bool
+carries none none = false
+carries none (some n) = true
+carries (some x) message = true
+
+-- whether a reception ends the train: it carries something, or it leaves a receiver that takes no segments
+abbrev pub stops : Option Response → Option ℕ → Receiver → Bool
+stops response message r = carries response message || not (taking (r .progress .state))
+
+-- what a segment's step makes of it: a refusal ends it, and so does a reception that stops it; else it goes on
 abbrev pub after : (Train → Train) → Train → Answer → Receiver → List ℕ → List ℕ → Train
 after go t (refused n) r store output = train (codeOf n) r store output (t .received) (t .response) (t .message)
-after go t (answered response message) r store output = go (train 0 r store output (t .received + 1) response message)
+after go t (answered response message) r store output =
+    cond (stops response message r) (train 0 r store output (t .received + 1) response message)
+    (go (train 0 r store output (t .received + 1) response message))
 
 -- all segments of a train come from one peer under one protocol, at one reading
 module _ (peer : MobileIdentity) (protocol : HigherLayerProtocol) (reading : ℕ) where

@@ -12,9 +12,12 @@ use receiver::Message;
 use receiver::ReceiveAnswer;
 use receiver::ReceiveError;
 use receiver::Receiver;
+use receiver::ReceiverState;
 use receiver::Reception;
 use receiver::Reply;
+use receiver::states::either;
 use receiver::states::smaller;
+use receiver::states::taking;
 use receiver::states::wide;
 use receiver_answers::error_code;
 use receiver_answers::put_received;
@@ -25,11 +28,13 @@ use tsar::HEADER_OCTETS;
 use tsar::decode::DecodeAnswer;
 use tsar::decode::decode_segment;
 ghost use mathlib.Core.Path.{_≡_};
+ghost use mathlib.Core.Bool.{_||_, not};
 ghost use Prim.Native.Nat.{_+_, _/_, _≤_, min};
 ghost use lib.ListN.{length, take, drop};
 ghost use lib.Seq.{sets};
+ghost use Rattle.receiver.specs.Record.{taking as takingOf};
 ghost use Rattle.receiver.specs.Says.{replySays, messageSays};
-ghost use Rattle.train_c.specs.Walk.{segmentsOf, startOf, trainOf, walked};
+ghost use Rattle.train_c.specs.Walk.{carries as carriesOf, segmentsOf, startOf, trainOf, walked};
 ghost use Rattle.train_c.specs.Calls.{call, trainImage, Met};
 
 // TRAIN, and its number of segments.
@@ -73,7 +78,29 @@ fn next(all: usize, at: usize, n: usize) -> usize
     at + n
 }
 
-// The segments of a train one after another, up to the first that is refused.
+// Whether a reception carries anything: a response, or a message.
+fn carries(reception: Reception) -> bool
+    ensures { λ r. ⌜ r ≡ carriesOf (replySays (reception .response)) (messageSays (reception .message)) ⌝ }
+{
+    let response = reception.response;
+    let message = reception.message;
+    match response {
+        Reply::Response(_) => true,
+        Reply::Nothing => match message {
+            Message::Octets(_) => true,
+            Message::Nothing => false,
+        },
+    }
+}
+
+// Whether a reception that leaves this state ends a train.
+fn stops(reception: Reception, state: ReceiverState) -> bool
+    ensures { λ r. ⌜ r ≡ (carriesOf (replySays (reception .response)) (messageSays (reception .message)) || not (takingOf state)) ⌝ }
+{
+    either(carries(reception), !taking(state))
+}
+
+// The segments of a train one after another, up to the first that is refused, or whose reception ends the train.
 fn walk(
     mut receiver: Receiver,
     peer: MobileIdentity,
@@ -134,8 +161,18 @@ fn walk(
                         reception = last;
                     }
                 }
+                let progress = receiver.progress;
+                let state = progress.state;
                 at = next(octets.len(), at, n);
                 i += 1;
+                if stops(reception, state) {
+                    return Walked {
+                        code: DONE,
+                        received: i as u64,
+                        reception,
+                        receiver,
+                    };
+                }
             }
         }
     }
@@ -157,8 +194,9 @@ fn put_train(answer: &mut [u8], received: u64, reception: Reception)
 }
 
 // The segments stand one after another in octets, and each two octets of lengths are the number of octets of one; an odd last octet of
-// lengths is ignored. Each is decoded under the record's version and received, up to the first that is refused, which the call gives.
-// The record then spells what the last call left, and the answer is TRAIN.
+// lengths is ignored. Each is decoded under the record's version and received, up to the first that is refused, which the call gives, or
+// whose reception carries a response or a message or closes the receiver: then it gives 0, and the caller goes on with the segments that
+// are left. The record then spells what the last call left, and the answer is TRAIN.
 #[no_mangle]
 pub extern "C" fn catkhize_receiver_train(
     record: &mut [u8],

@@ -7,7 +7,7 @@ use mathlib.Core.Option.{Option, none, some}
 use Prim.Native.Nat.{ℕ, zero, suc, _+_, _/_}
 use lib.Dec.{eqb, ltb, leb}
 use lib.ListN.{length, getD, drop}
-use Rattle.tsar.specs.Rows.{Refusal, firstOf, refusal, orElse}
+use Rattle.tsar.specs.Rows.{Refusal, firstOf, refusal, orElse, either}
 use Rattle.tsar.specs.Numbers.{number}
 use Rattle.tsar.specs.Reading.{Decoded, decoded, refused as unread, beginTest, paramsOf, withParams, segmentAs, segmentOf}
 use Rattle.tsar.specs.declared.Error.{Error}
@@ -30,7 +30,7 @@ use Rattle.receiver.specs.Record.{late, due}
 use Rattle.receiver.specs.Answers.{Answer, refused, answered}
 use Rattle.receiver.specs.Receive.{Arrival, Outcome, fails, repeats, closes, keeps, finishes, receiveRows, slotRules, settle, lateOr, receiveAfter, receiveOf}
 use Rattle.receiver.specs.Advance.{tryNewRows, madeAfter, tryNewOf, clockRows, fires, advanceAfter, advanceOf, cancelRows, cancelAfter, cancelOf}
-use Rattle.train_c.specs.Walk.{Train, train, after, arrivalOf, decodedStep, trainStep, trainOf}
+use Rattle.train_c.specs.Walk.{Train, train, stops, after, arrivalOf, decodedStep, trainStep, trainOf}
 use Rattle.receiver_answers.specs.Answers.{answerCode}
 use Rattle.two_calls.proofs.Passing.{both, either-left, first-passes, passes, refusal-passes, and-left, other, otherRefusal, fine}
 
@@ -194,7 +194,8 @@ module _ (peer : MobileIdentity) (protocol : HigherLayerProtocol) (reading : ℕ
   after-other : (go : Train → Train) → ((t : Train) → other (t .code) ≡ true → other (go t .code) ≡ true) → (t : Train) (a : Answer) (r : Receiver) (store output : List ℕ)
       → fineAnswer a ≡ true → other (after go t a r store output .code) ≡ true
   after-other go f t (refused x) r store output p = answer-other (refused x) p
-  after-other go f t (answered response message) r store output p = f (train 0 r store output (t .received + 1) response message) refl
+  after-other go f t (answered response message) r store output p =
+      either (λ (x : Train). other (x .code) ≡ true) (stops response message r) _ _ (λ _. refl) (λ _. f (train 0 r store output (t .received + 1) response message) refl)
 
   pub train-other : (l : List (List ℕ)) (t : Train) → other (t .code) ≡ true → other (trainOf peer protocol reading l t .code) ≡ true
   unfolding trainOf

@@ -177,16 +177,22 @@ fn reception(out: &mut Vec<u8>, reception: Option<&Reception>) {
     out.put64(message.map_or(0, Vec::len) as u64);
 }
 
+/// A receiver that takes no segments.
+fn closed(original: &Receiver) -> bool {
+    CLOSED.contains(&spell::receiver_state(original.state())[0])
+}
+
 /// The recorder's receivers, which take trains too.
 #[derive(Default)]
 pub struct Trains {
     receiving: Receiving,
-    /// The message that the last train handed over, perhaps before its last segment.
+    /// The message that the last train handed over.
     message: Option<Vec<u8>>,
 }
 
 impl Player for Trains {
-    /// The answer to a train opens as any; then comes TRAIN.
+    /// A train stops behind the first reception that carries a response or a message, or that closes the receiver, and at a refusal. Its
+    /// answer opens as any; then comes TRAIN.
     fn play(&mut self, op: u8, input: &[u8]) -> Vec<u8> {
         self.message = None;
         if op != TRAIN {
@@ -213,8 +219,14 @@ impl Player for Trains {
             };
             match result {
                 Ok(reception) => {
-                    self.message = self.message.take().or(reception.message.clone());
+                    let ends = reception.response.is_some()
+                        || reception.message.is_some()
+                        || closed(receiver);
+                    self.message = reception.message.clone();
                     received.push(reception);
+                    if ends {
+                        break;
+                    }
                 }
                 Err(refusal) => {
                     stopped = Some(refusal);
@@ -227,6 +239,7 @@ impl Player for Trains {
             Some((n, m)) => vec![1, n, m],
         };
         answer.put64(received.len() as u64);
+        // Beside a refusal nothing stands: what was received before it carried nothing.
         reception(&mut answer, received.last());
         answer
     }

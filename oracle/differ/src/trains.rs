@@ -9,7 +9,7 @@ use record::make::heads::WINDOWS;
 use record::make::receiver::{changed_peer, changed_protocol};
 use record::make::receiver_run::{LAST_READING, Part, REASSEMBLY_MS, any_opening};
 use record::make::trains::{DIFFERENCES, any_train, cut, differing, shuffled};
-use record::octets::{Put, patched};
+use record::octets::{Put, Take, patched};
 use record::play::receiver::{ADVANCE, CANCEL, OPEN, Opening};
 use record::random::Random;
 
@@ -38,13 +38,14 @@ fn encoded(part: &Part) -> Vec<u8> {
     segment.encode(ProtocolVersion(1)).unwrap_or_default()
 }
 
+/// Makes the call, and gives how many segments were received if it gave 0.
 fn train(
     record: &mut Record,
     opening: &Opening,
     reading: u64,
-    segments: &[Vec<u8>],
+    octets: &[u8],
     lengths: &[u16],
-) {
+) -> Option<usize> {
     let mut input = Vec::new();
     put_peer(&mut input, opening.peer);
     put_protocol(&mut input, opening.protocol);
@@ -53,8 +54,35 @@ fn train(
     for length in lengths {
         input.put16(usize::from(*length));
     }
-    input.put_all(&segments.concat());
-    record.call(TRAIN, &input);
+    input.put_all(octets);
+    let answer = record.call(TRAIN, &input);
+    (answer[0] == DONE).then(|| Take(&answer[3..]).take64() as usize)
+}
+
+/// A train, and its rest as long as a call gives 0 and some are left; now and then the rest is dropped.
+fn go_on(
+    record: &mut Record,
+    opening: &Opening,
+    reading: u64,
+    octets: &[u8],
+    lengths: &[u16],
+    drops: bool,
+) {
+    let (mut octets, mut lengths) = (octets, lengths);
+    loop {
+        let received = train(record, opening, reading, octets, lengths);
+        let Some(received) = received.filter(|received| *received > 0) else {
+            return;
+        };
+        let (taken, rest) = lengths.split_at(received);
+        for length in taken {
+            octets = &octets[usize::from(*length).min(octets.len())..];
+        }
+        lengths = rest;
+        if lengths.is_empty() || drops && record.random.once_in(4) {
+            return;
+        }
+    }
 }
 
 fn lengths(segments: &[Vec<u8>]) -> Vec<u16> {
@@ -101,7 +129,7 @@ fn list(record: &mut Record) {
             change_lengths(random, &mut lengths);
         }
         reading = any_reading(random, reading);
-        train(record, &other, reading, &segments, &lengths);
+        go_on(record, &other, reading, &segments.concat(), &lengths, true);
         match record.random.below(8) {
             0 => drop(record.call(
                 ADVANCE,
@@ -173,7 +201,7 @@ fn change_lengths(random: &mut Random, lengths: &mut Vec<u16>) {
     }
 }
 
-/// 256 segments of 255 octets in one call, and in two.
+/// 256 segments of 255 octets, from one call on and from two.
 fn full(record: &mut Record) {
     for (window, cut_at) in [(0, 256), (3, 256), (4, 100), (5, 255)] {
         let mut opening = any_opening(&mut record.random);
@@ -190,12 +218,13 @@ fn full(record: &mut Record) {
         }
         let segments: Vec<Vec<u8>> = parts.iter().map(encoded).collect();
         for segments in [&segments[..cut_at], &segments[cut_at..]] {
-            train(
+            go_on(
                 record,
                 &opening,
                 opening.reading,
-                segments,
+                &segments.concat(),
                 &lengths(segments),
+                false,
             );
         }
     }

@@ -439,7 +439,9 @@ pub fn receiver_cancel(record: &mut [u8], store: &mut [u8], reading: u64) -> u32
     ))
 }
 
-/// Takes segments that stand one after another in `octets`; `lengths` has 16 bits for each. The answer is TRAIN.
+/// Takes segments that stand one after another in `octets`; `lengths` has 16 bits for each. It stops behind a segment whose reception carries
+/// a response or a message or closes the receiver, with 0, and at the first that is refused. The answer is TRAIN; go on with the octets and
+/// lengths behind the segments that it counts.
 #[allow(clippy::too_many_arguments)]
 pub fn receiver_train(
     record: &mut [u8],

@@ -53,17 +53,31 @@ pub struct Reception<'a> {
 /// let mut receiver = Receiver::try_new(peer, protocol, 0, 1, 100, 0)?;
 /// let train = receiver.receive_train(peer, protocol, &[0, 0, 1, b'a', 16, 1, 1, b'b'], &[4, 4], 5)?;
 /// assert_eq!((train.received, train.stopped), (2, None));
-/// assert_eq!(train.last.and_then(|reception| reception.message), Some(b"ab".as_slice()));
+/// assert_eq!(train.message(), Some(b"ab".as_slice()));
 /// # Ok::<(), Refusal>(())
 /// ```
-#[derive(Debug, Clone, Copy, PartialEq, Eq)]
+#[derive(Debug, Clone, PartialEq, Eq)]
 pub struct Train<'a> {
     /// How many segments were received.
     pub received: u64,
     /// Why the next one was refused, if one was.
     pub stopped: Option<Refusal>,
-    /// What receiving the last of them gave.
-    pub last: Option<Reception<'a>>,
+    /// Every reception that carried a response or a message, in order, each with how many segments had been received, its own counted.
+    pub receptions: Vec<(u64, Reception<'a>)>,
+}
+
+impl<'a> Train<'a> {
+    /// What is to be sent to the peer, in order.
+    pub fn responses(&self) -> impl Iterator<Item = Response> {
+        let receptions = self.receptions.iter();
+        receptions.filter_map(|(_, reception)| reception.response)
+    }
+
+    /// The message, if the train handed it over.
+    pub fn message(&self) -> Option<&'a [u8]> {
+        let mut receptions = self.receptions.iter();
+        receptions.find_map(|(_, reception)| reception.message)
+    }
 }
 
 /// The receiver of one transaction, with the store for its segments and the output for its message.
@@ -84,6 +98,16 @@ pub struct Receiver {
     record: Vec<u8>,
     store: Vec<u8>,
     output: Vec<u8>,
+}
+
+/// The response of a RECEPTION, and the number of octets handed over.
+type Found = (Option<Response>, Option<u64>);
+
+fn found(take: &mut Take) -> Option<Found> {
+    let response = Response::take(take)?;
+    let handed_over = take.flag();
+    let octets = take.take64();
+    Some((response, handed_over.then_some(octets)))
 }
 
 impl Receiver {
@@ -151,12 +175,35 @@ impl Receiver {
             &mut answer,
         );
         Given::new(given).done()?;
-        self.reception(&mut Take(&answer))
+        found(&mut Take(&answer))
+            .and_then(|found| self.reception(found))
             .ok_or(Refusal::BUFFER_SPELLS_NONE)
     }
 
-    /// Takes segments that stand one after another in `octets`, each as long as `lengths` says, all with one reading. It stops at the
-    /// first that decoding or receiving refuses. The error is for buffers alone, which this type keeps right.
+    /// Takes segments that stand one after another in `octets`, each as long as `lengths` says, all with one reading, up to the first
+    /// that decoding or receiving refuses. The entry stops behind each segment that is answered or that hands over the message; this goes
+    /// on with the rest and gives every response and the message. The error is for buffers alone, which this type keeps right.
+    ///
+    /// ```
+    /// use catkhize::*;
+    /// let peer = MobileIdentity { kind: 0, width: 34, value: 1 };
+    /// let protocol = HigherLayerProtocol::Segmented(0);
+    /// let mut receiver = Receiver::try_new(peer, protocol, 0, 1, 100, 0)?;
+    /// // The Begin asks for a response to every fourth segment.
+    /// let segments: [&[u8]; 6] = [
+    ///     &[0, 0, 1, b'a', 0x20, 0x08], &[8, 1, 1, b'b'], &[8, 2, 1, b'c'], &[8, 3, 1, b'd'], &[8, 4, 1, b'e'], &[16, 5, 1, b'f'],
+    /// ];
+    /// let lengths = segments.map(|octets| octets.len() as u16);
+    /// let train = receiver.receive_train(peer, protocol, &segments.concat(), &lengths, 5)?;
+    /// assert_eq!((train.received, train.stopped), (6, None));
+    /// for (received, reception) in &train.receptions {
+    ///     println!("behind segment {received}: send {:?}", reception.response);
+    /// }
+    /// let behind: Vec<u64> = train.receptions.iter().map(|(received, _)| *received).collect();
+    /// assert_eq!(behind, [4, 6]);
+    /// assert_eq!(train.message(), Some(b"abcdef".as_slice()));
+    /// # Ok::<(), Refusal>(())
+    /// ```
     pub fn receive_train(
         &mut self,
         peer: MobileIdentity,
@@ -165,46 +212,64 @@ impl Receiver {
         lengths: &[u16],
         monotonic_ms: u64,
     ) -> Result<Train<'_>, Refusal> {
-        let lengths: Vec<u8> = lengths
-            .iter()
-            .flat_map(|length| length.to_be_bytes())
-            .collect();
-        let mut answer = [0; layout::TRAIN];
-        let given = calls::receiver_train(
-            &mut self.record,
-            &mut self.store,
-            &mut self.output,
-            calls::Origin::new(peer, protocol),
-            octets,
-            &lengths,
-            monotonic_ms,
-            &mut answer,
-        );
-        let stopped = Given::new(given).done().err();
-        if let Some(refusal) = stopped.filter(|refusal| refusal.is_own()) {
-            return Err(refusal);
-        }
-        let mut take = Take(&answer);
-        let received = take.take64();
-        let last = self
-            .reception(&mut take)
+        let (mut octets, mut lengths) = (octets, lengths);
+        let mut received = 0;
+        let mut carried = Vec::new();
+        let stopped = loop {
+            let lengths_octets: Vec<u8> = lengths
+                .iter()
+                .flat_map(|length| length.to_be_bytes())
+                .collect();
+            let mut answer = [0; layout::TRAIN];
+            let given = calls::receiver_train(
+                &mut self.record,
+                &mut self.store,
+                &mut self.output,
+                calls::Origin::new(peer, protocol),
+                octets,
+                &lengths_octets,
+                monotonic_ms,
+                &mut answer,
+            );
+            let stopped = Given::new(given).done().err();
+            if let Some(refusal) = stopped.filter(|refusal| refusal.is_own()) {
+                return Err(refusal);
+            }
+            let mut take = Take(&answer);
+            let count = take.take64();
+            received += count;
+            let found = found(&mut take).ok_or(Refusal::BUFFER_SPELLS_NONE)?;
+            if found != (None, None) {
+                carried.push((received, found));
+            }
+            let taken = usize::try_from(count).map_or(lengths.len(), |n| n.min(lengths.len()));
+            let (done, rest) = lengths.split_at(taken);
+            for length in done {
+                octets = &octets[usize::from(*length).min(octets.len())..];
+            }
+            lengths = rest;
+            if stopped.is_some() || taken == 0 || lengths.is_empty() {
+                break stopped;
+            }
+        };
+        let receptions = carried
+            .into_iter()
+            .map(|(received, found)| Some((received, self.reception(found)?)))
+            .collect::<Option<_>>()
             .ok_or(Refusal::BUFFER_SPELLS_NONE)?;
-        let last = (received > 0).then_some(last);
         Ok(Train {
             received,
             stopped,
-            last,
+            receptions,
         })
     }
 
-    fn reception(&self, take: &mut Take) -> Option<Reception<'_>> {
-        let response = Response::take(take)?;
-        let handed_over = take.flag();
-        let message = part(&self.output, 0, take.take64())?;
-        Some(Reception {
-            response,
-            message: handed_over.then_some(message),
-        })
+    fn reception(&self, (response, octets): Found) -> Option<Reception<'_>> {
+        let message = match octets {
+            Some(octets) => Some(part(&self.output, 0, octets)?),
+            None => None,
+        };
+        Some(Reception { response, message })
     }
 
     /// Lets time pass. A response asks the peer for what is missing.

@@ -231,21 +231,115 @@ fn trains() {
     let mut record = receiver(10);
     let mut store = filled(layout::STORE);
     let mut output = filled(10);
-    let mut answer = filled(layout::TRAIN);
-    let octets = [2, 0, 1, b'a', 0x12, 1, 1, b'b', 0x40];
-    let given = calls::receiver_train(
-        &mut record,
-        &mut store,
-        &mut output,
-        origin(),
-        &octets,
-        &[0, 4, 0, 4, 0, 1],
-        100,
-        &mut answer,
-    );
-    assert_eq!(refusal(given), Refusal::PROTOCOL);
-    assert_eq!((number(&answer[..8]), answer[50]), (2, 1));
+    let octets = [2, 0, 1, b'a', 0x12, 1, 1, b'b', 0x12, 1, 1, b'b', 0x40];
+    let lengths = [0, 4, 0, 4, 0, 4, 0, 1];
+    let mut train = |octets: &[u8], lengths: &[u8]| {
+        let mut answer = filled(layout::TRAIN);
+        let given = calls::receiver_train(
+            &mut record,
+            &mut store,
+            &mut output,
+            origin(),
+            octets,
+            lengths,
+            100,
+            &mut answer,
+        );
+        (given, number(&answer[..8]), answer[8..].to_vec())
+    };
+    let (given, received, reception) = train(&octets, &lengths);
+    assert_eq!((given, received), (0, 2));
+    assert!(reception[..42].iter().all(|octet| *octet == 0));
+    assert_eq!(reception[42..], [1, 0, 0, 0, 0, 0, 0, 0, 2]);
+    let (given, received, reception) = train(&octets[8..], &lengths[4..]);
+    assert_eq!((refusal(given), received), (Refusal::PROTOCOL, 1));
+    assert!(reception.iter().all(|octet| *octet == 0));
     assert!(output.starts_with(b"ab") && untouched(&output[2..]));
+}
+
+/// A segment of one octet of data in transaction 2; a Begin has a window.
+fn one_octet(window: u8, kind: u8, sequence: u8) -> Vec<u8> {
+    let mut octets = vec![8 * kind + 2, sequence, 1, b'a'.wrapping_add(sequence)];
+    if kind == 0 {
+        octets.extend([0x20, 8 * window]);
+    }
+    octets
+}
+
+/// The typed layer goes on with the rest of a train, and gives every response and the message.
+#[test]
+fn trains_go_on() {
+    let train_of = |window: u8, sequences: &[u8]| -> (Vec<u8>, Vec<u16>) {
+        let kind = |sequence| match sequence {
+            0 => 0,
+            9 => 2,
+            _ => 1,
+        };
+        let segments: Vec<Vec<u8>> = sequences
+            .iter()
+            .map(|sequence| one_octet(window, kind(*sequence), *sequence))
+            .collect();
+        let lengths = segments.iter().map(|octets| octets.len() as u16);
+        (segments.concat(), lengths.collect())
+    };
+    let sequences: Vec<u8> = (0..10).chain([9, 3, 1]).collect();
+    for (window, behind) in [
+        (0, vec![10]),
+        (1, vec![4, 8, 10, 11, 12, 13]),
+        (2, vec![8, 10, 11, 12, 13]),
+        (4, vec![10, 11, 12, 13]),
+        (5, vec![10]),
+    ] {
+        let (octets, lengths) = train_of(window, &sequences);
+        let mut one = Receiver::try_new(PEER, PROTOCOL, 2, 1, 100, 0).expect("a right peer");
+        let mut single = one.clone();
+        let train = one.receive_train(PEER, PROTOCOL, &octets, &lengths, 100);
+        let train = train.expect("right buffers");
+        assert_eq!((train.received, train.stopped), (13, None));
+        let found: Vec<u64> = train.receptions.iter().map(|(n, _)| *n).collect();
+        assert_eq!(found, behind, "window {window}");
+        assert_eq!(train.message(), Some(b"abcdefghij".as_slice()));
+        // The same segments in single calls.
+        let mut expected = Vec::new();
+        let mut rest = octets.as_slice();
+        for (index, length) in lengths.iter().enumerate() {
+            let (segment, next) = rest.split_at(usize::from(*length));
+            rest = next;
+            let decoded = decode_segment(segment, 1).expect("a segment");
+            let reception = single.receive(PEER, PROTOCOL, &decoded, 100);
+            let reception = reception.expect("it is taken");
+            if let Some(response) = reception.response {
+                expected.push((index as u64 + 1, response));
+            }
+        }
+        let responses = train.receptions.iter();
+        let responses: Vec<(u64, Response)> = responses
+            .filter_map(|(n, reception)| Some((*n, reception.response?)))
+            .collect();
+        assert_eq!(responses, expected);
+        assert_eq!(train.responses().count(), expected.len());
+        drop(train);
+        assert_eq!(one.record(), single.record());
+    }
+    // A failure that is not answered, and then what is refused; a refusal in the middle; no segments.
+    let mut receiver = Receiver::try_new(PEER, PROTOCOL, 2, 1, 100, 0).expect("a right peer");
+    let (octets, lengths) = train_of(0, &[0, 255, 1]);
+    let train = receiver.receive_train(PEER, PROTOCOL, &octets, &lengths, 100);
+    let train = train.expect("right buffers");
+    assert_eq!((train.received, train.stopped), (2, Some(Refusal::CLOSED)));
+    assert!(train.receptions.is_empty());
+    assert_eq!(receiver.state(), ReceiverState::Failed(Status::Aborted));
+    let mut receiver = Receiver::try_new(PEER, PROTOCOL, 2, 1, 100, 0).expect("a right peer");
+    let (octets, lengths) = train_of(1, &[0, 1, 2, 3, 4, 5]);
+    let train = receiver.receive_train(PEER, PROTOCOL, &octets[..24], &lengths, 100);
+    let train = train.expect("right buffers");
+    assert_eq!(
+        (train.received, train.stopped),
+        (5, Some(Refusal::TRUNCATED))
+    );
+    assert_eq!(train.receptions.len(), 1);
+    let train = receiver.receive_train(PEER, PROTOCOL, &[], &[], 100);
+    assert_eq!(train.map(|train| train.received), Ok(0));
 }
 
 #[test]

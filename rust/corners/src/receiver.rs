@@ -4,6 +4,7 @@ mod bench;
 mod impossible;
 mod made;
 mod marked;
+mod one_call;
 mod record;
 mod refusals;
 mod repeats;
@@ -25,4 +26,5 @@ pub fn corners(tally: &mut Tally) {
     impossible::corners(tally);
     windows::corners(tally);
     trains::corners(tally);
+    one_call::corners(tally);
 }

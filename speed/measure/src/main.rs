@@ -59,9 +59,11 @@ mod port {
     }
 }
 
-/// The octets of a receiver's record and of what a train answers; in the answer, where the number of octets handed over begins.
+/// The octets of a receiver's record and of what a train answers; in the answer, where the number of segments received and the number of
+/// octets handed over begin.
 const RECORD_OCTETS: usize = 3930;
 const TRAIN_OCTETS: usize = 59;
+const RECEIVED_AT: usize = 0;
 const COUNT_AT: usize = 51;
 
 /// Encoded segments one after another, with the number of octets of each in two octets.
@@ -69,6 +71,8 @@ struct Train {
     octets: Vec<u8>,
     lengths: Vec<u8>,
     message: Vec<u8>,
+    /// The calls that the port makes of it: one, and one more behind each response.
+    calls: usize,
 }
 
 impl Train {
@@ -117,6 +121,7 @@ impl Train {
             octets,
             lengths,
             message,
+            calls: 0,
         }
     }
 
@@ -179,8 +184,8 @@ impl Program {
                 &mut buffers.store,
                 &mut buffers.output,
             ),
-            Self::Port => port(&train.octets, &train.lengths, buffers),
-            Self::Record => port(&[], &[], buffers),
+            Self::Port => port(train, buffers).0,
+            Self::Record => record(train, buffers),
             Self::Copies => copies(train, buffers),
         }
     }
@@ -211,10 +216,15 @@ fn original(train: &Train) -> Vec<u8> {
     message
 }
 
-/// The exports as firmware calls them: the record is made in octets, read off them, taken through the train and put back. With no segments
-/// that leaves the making, reading and putting back.
-#[inline(never)]
-fn port(octets: &[u8], lengths: &[u8], buffers: &mut Buffers) -> usize {
+fn number(answer: &[u8; TRAIN_OCTETS], at: usize) -> usize {
+    let octets = answer[at..at + 8]
+        .try_into()
+        .expect("a number has eight octets");
+    u64::from_be_bytes(octets) as usize
+}
+
+/// A new receiver's record.
+fn make(buffers: &mut Buffers) {
     let record = &mut buffers.record;
     // SAFETY: a slice, as a pointer and its length.
     let made = unsafe {
@@ -233,6 +243,11 @@ fn port(octets: &[u8], lengths: &[u8], buffers: &mut Buffers) -> usize {
         )
     };
     assert_eq!(made, 0, "these terms are served");
+}
+
+/// One call on a train.
+fn take(octets: &[u8], lengths: &[u8], buffers: &mut Buffers) -> [u8; TRAIN_OCTETS] {
+    let record = &mut buffers.record;
     let mut answer = [FILL; TRAIN_OCTETS];
     // SAFETY: six slices that do not overlap, each as a pointer and its length.
     let taken = unsafe {
@@ -258,10 +273,39 @@ fn port(octets: &[u8], lengths: &[u8], buffers: &mut Buffers) -> usize {
         )
     };
     assert_eq!(taken, 0, "the train is taken");
-    let count = answer[COUNT_AT..]
-        .try_into()
-        .expect("a number has eight octets");
-    u64::from_be_bytes(count) as usize
+    answer
+}
+
+/// The exports as firmware calls them: the record is made in octets; a call reads it off them, takes it through the train up to the first
+/// reception that carries a response or a message, and puts it back, and firmware goes on with the rest. Gives the number of octets handed
+/// over, and the number of calls that it took.
+#[inline(never)]
+fn port(train: &Train, buffers: &mut Buffers) -> (usize, usize) {
+    make(buffers);
+    let (mut octets, mut lengths) = (train.octets.as_slice(), train.lengths.as_slice());
+    let mut calls = 0;
+    loop {
+        let answer = take(octets, lengths, buffers);
+        calls += 1;
+        let (received, rest) = lengths.split_at(2 * number(&answer, RECEIVED_AT));
+        for pair in received.chunks_exact(2) {
+            octets = &octets[usize::from(u16::from_be_bytes([pair[0], pair[1]]))..];
+        }
+        lengths = rest;
+        if lengths.is_empty() {
+            return (number(&answer, COUNT_AT), calls);
+        }
+    }
+}
+
+/// The same with no segments, in as many calls as the train takes: making the record, reading it and putting it back.
+#[inline(never)]
+fn record(train: &Train, buffers: &mut Buffers) -> usize {
+    make(buffers);
+    for _ in 0..train.calls {
+        take(&[], &[], buffers);
+    }
+    0
 }
 
 /// Each segment's data to its slot, then all slots to the output: the octets that a receiver with a store cannot but copy.
@@ -302,7 +346,7 @@ fn median(mut times: Vec<f64>) -> f64 {
 fn main() {
     let in_order: Vec<usize> = (0..SEGMENTS).collect();
     let shuffled = shuffled();
-    let cases = [
+    let mut cases = [
         (
             "Prohibited, in order",
             AcknowledgmentWindow::Prohibited,
@@ -330,6 +374,9 @@ fn main() {
         store: vec![FILL; MESSAGE_OCTETS],
         output: vec![FILL; MESSAGE_OCTETS],
     };
+    for (_, train) in &mut cases {
+        train.calls = port(train, &mut buffers).1;
+    }
     for (name, train) in &cases {
         for program in Program::ALL {
             buffers.store.fill(FILL);
@@ -362,10 +409,14 @@ fn main() {
         "| Window and order | docs/src | plain Rust | this port | of it the record's octets | copies | port / plain | without the octets | port / docs/src |"
     );
     println!("|---|---|---|---|---|---|---|---|---|");
-    for ((name, _), times) in cases.iter().zip(times) {
+    for ((name, train), times) in cases.iter().zip(times) {
+        let calls = match train.calls {
+            1 => String::from("one call"),
+            calls => format!("{calls} calls"),
+        };
         let [original, plain, port, record, copies] = times.map(median);
         println!(
-            "| {name} | {original:.1} | {plain:.1} | {port:.1} | {record:.1} | {copies:.1} | {:.2} | {:.2} | {:.2} |",
+            "| {name}; the port in {calls} | {original:.1} | {plain:.1} | {port:.1} | {record:.1} | {copies:.1} | {:.2} | {:.2} | {:.2} |",
             port / plain,
             (port - record) / plain,
             port / original

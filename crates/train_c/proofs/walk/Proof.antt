@@ -1,5 +1,6 @@
 -- `train_c::walk` meets its contract. The loop's invariant: what is left of the train from segment i on, whose octets begin at `at`, makes the same
--- whole train from where it stands now. The measure is the number of segments left. Assumes nothing.
+-- whole train from where it stands now. The measure is the number of segments left. A turn whose reception ends the train returns what the
+-- definition says of it; any other lets it go on. Assumes nothing.
 use borrow.Author.Needs.{needs}
 use mathlib.Core.Path.{_≡_, refl, ap, sym, _∙_}
 use mathlib.Core.List.{List}
@@ -13,7 +14,7 @@ use Rattle.tsar.proofs.Told.{told-within}
 use Rattle.receiver.specs.Answers.{Step, refuses}
 use Rattle.receiver.specs.Says.{replySays, messageSays, receiveSays, received}
 use Rattle.train_c.specs.Walk.{Train, train, segmentsOf, startOf, trainStep, trainOf, after}
-use Rattle.train_c.specs.Laws.{step-refused, step-decoded, train-ends, train-turn, train-stops, train-goes}
+use Rattle.train_c.specs.Laws.{step-refused, step-decoded, train-ends, train-turn, train-stops, train-carries, train-goes}
 use Rattle.train_c.proofs.walk.Statement.{statement}
 use Rattle.train_c.proofs.walk.Tie as tie
 
@@ -159,20 +160,36 @@ next-requires : tie.Need-next-requires Inv-loop μ-loop
 next-requires c κs = search needs
 
 add-i : tie.Need-add-i Inv-loop μ-loop
-add-i c = omega (arith, c .before .before .before .before .before .before .before .before .before .before .before .before .before .before .before .before .before .before .before .before .before .before .before .loop-test .taken, c .before .before .before .before .before .before .before .before .before .before .before .before .before .before .before .before .before .before .before .before .before .before .before .before .loop .inv .4)
+add-i c = omega (arith, c .before .before .before .before .before .before .before .before .before .before .before .before .before .before .before .before .before .before .before .before .before .before .before .before .loop-test .taken, c .before .before .before .before .before .before .before .before .before .before .before .before .before .before .before .before .before .before .before .before .before .before .before .before .before .loop .inv .4)
+
+stops-requires : tie.Need-stops-requires Inv-loop μ-loop
+stops-requires c κs = search needs
+
+same-length-5 : tie.Need-same-length-5 Inv-loop μ-loop
+same-length-5 c = c .before .before .before .before .before .before .before .before .before .before .before .store .given ∙ c .before .before .before .before .before .before .before .before .before .before .before .before .before .before .before .before .before .before .before .before .before .before .before .before .before .before .before .loop .inv .0
+
+same-length-6 : tie.Need-same-length-6 Inv-loop μ-loop
+same-length-6 c = c .before .before .before .before .before .before .before .before .before .output .given ∙ c .before .before .before .before .before .before .before .before .before .before .before .before .before .before .before .before .before .before .before .before .before .before .before .before .before .before .before .loop .inv .1
+
+returns-3 : tie.Need-returns-3 Inv-loop μ-loop
+returns-3 c =
+    let b = c .before .before .before .before .before .before .before .before .before .before .before .before in
+    let m = c .before .before .before .before .before .answer2 .given .0 .0 in
+    train-carries (left (b .before .before .before .before .before .before .before .before .before .before .before .before)) (stands (b .before .before .before .before .before .before .before .before .before .before .before .before .before .before .before)) (step b) (wholeTrain (b .before .before .before .before .before .before .before .before .before .before .before .before .before .before .before .before .before .before .before .before)) (replySays (m .response)) (messageSays (m .message)) (turned b) (ap receiveSays (c .before .before .before .before .before .answer2 .given .1)) (sym (c .before .stops .ensures) ∙ c .if1 .taken)
 
 loop-less : tie.Need-loop-less Inv-loop μ-loop
-loop-less c = less (length (now (c .before .before .before .before .before .before .before .before .before .before .before .before .before .before .before .before .before .before .before .before .before .before .before .before .before .before .before .before .before .args .lengths)) / 2) (c .before .before .before .before .before .before .before .before .before .before .before .before .before .before .before .before .before .before .before .before .before .before .before .before .loop .i) (c .before .before .before .before .before .before .before .before .before .before .before .before .before .before .before .before .before .before .before .before .before .before .before .loop-test .taken)
+loop-less c = less (length (now (c .before .before .before .before .before .before .before .before .before .before .before .before .before .before .before .before .before .before .before .before .before .before .before .before .before .before .before .before .before .before .before .before .args .lengths)) / 2) (c .before .before .before .before .before .before .before .before .before .before .before .before .before .before .before .before .before .before .before .before .before .before .before .before .before .before .before .loop .i) (c .before .before .before .before .before .before .before .before .before .before .before .before .before .before .before .before .before .before .before .before .before .before .before .before .before .before .loop-test .taken)
 
 loop-again : tie.Need-loop-again Inv-loop μ-loop
 loop-again c =
-    let x = c .before .before .before .before .before .before .before .before .before .before .before .before .before .before .before .before .before .before .before .before .before .before .before .before .before .before .before .before .before .args in
-    let l = c .before .before .before .before .before .before .before .before .before .before .before .before .before .before .before .before .before .before .before .before .before .before .before .before .loop in
-    let s = step (c .before .before .before .before .before .before .before .before .before) in
-    let m = c .before .before .answer2 .given .0 .0 in (
-      c .before .before .before .before .before .before .before .before .store .given ∙ l .inv .0,
-      c .before .before .before .before .before .before .output .given ∙ l .inv .1,
-      omega (arith, c .before .before .before .before .before .before .before .before .before .before .before .before .before .before .before .before .before .before .before .before .before .before .before .loop-test .taken),
+    let x = c .before .before .before .before .before .before .before .before .before .before .before .before .before .before .before .before .before .before .before .before .before .before .before .before .before .before .before .before .before .before .before .before .args in
+    let l = c .before .before .before .before .before .before .before .before .before .before .before .before .before .before .before .before .before .before .before .before .before .before .before .before .before .before .before .loop in
+    let b = c .before .before .before .before .before .before .before .before .before .before .before .before in
+    let s = step b in
+    let m = c .before .before .before .before .before .answer2 .given .0 .0 in (
+      c .before .before .before .before .before .before .before .before .before .before .before .store .given ∙ l .inv .0,
+      c .before .before .before .before .before .before .before .before .before .output .given ∙ l .inv .1,
+      omega (arith, c .before .before .before .before .before .before .before .before .before .before .before .before .before .before .before .before .before .before .before .before .before .before .before .before .before .before .loop-test .taken),
       l .inv .3,
       l .inv .4,
       ap
@@ -180,18 +197,18 @@ loop-again c =
           trainOf (x .peer) (x .protocol) (x .reading)
           (segmentsOf (length (now (x .lengths)) / 2 - (l .i + 1)) (drop (2 * (l .i + 1)) (now (x .lengths))) (drop k (now (x .octets))))
           (train 0 (s .receiver) (s .store) (s .output) (l .i + 1) (replySays (m .response)) (messageSays (m .message))))
-          (c .next .ensures)
-          ∙ train-goes (left (c .before .before .before .before .before .before .before .before .before .before .before .before .before .before .before .before .before .before .before .before .before)) (stands (c .before .before .before .before .before .before .before .before .before .before .before .before .before .before .before .before .before .before .before .before .before .before .before .before)) s (wholeTrain (c .before .before .before .before .before .before .before .before .before .before .before .before .before .before .before .before .before .before .before .before .before .before .before .before .before .before .before .before .before)) (replySays (m .response)) (messageSays (m .message)) (turned (c .before .before .before .before .before .before .before .before .before)) (ap receiveSays (c .before .before .answer2 .given .1)),
+          (c .before .before .next .ensures)
+          ∙ train-goes (left (b .before .before .before .before .before .before .before .before .before .before .before .before)) (stands (b .before .before .before .before .before .before .before .before .before .before .before .before .before .before .before)) s (wholeTrain (b .before .before .before .before .before .before .before .before .before .before .before .before .before .before .before .before .before .before .before .before)) (replySays (m .response)) (messageSays (m .message)) (turned b) (ap receiveSays (c .before .before .before .before .before .answer2 .given .1)) (sym (c .before .stops .ensures) ∙ c .if1 .left),
     )
 
-same-length-5 : tie.Need-same-length-5 Inv-loop μ-loop
-same-length-5 c = c .before .loop .inv .0
+same-length-7 : tie.Need-same-length-7 Inv-loop μ-loop
+same-length-7 c = c .before .loop .inv .0
 
-same-length-6 : tie.Need-same-length-6 Inv-loop μ-loop
-same-length-6 c = c .before .loop .inv .1
+same-length-8 : tie.Need-same-length-8 Inv-loop μ-loop
+same-length-8 c = c .before .loop .inv .1
 
-returns-3 : tie.Need-returns-3 Inv-loop μ-loop
-returns-3 c =
+returns-4 : tie.Need-returns-4 Inv-loop μ-loop
+returns-4 c =
     let x = c .before .before .before .before .before .before .args in
     let l = c .before .loop in
     let e : length (now (x .lengths)) / 2 - l .i ≡ 0 = omega (arith, c .loop-test .left) in
@@ -228,8 +245,12 @@ walk-spec =
     enum-known-answer-2
     next-requires
     add-i
-    loop-less
-    loop-again
+    stops-requires
     same-length-5
     same-length-6
-    returns-3)
+    returns-3
+    loop-less
+    loop-again
+    same-length-7
+    same-length-8
+    returns-4)

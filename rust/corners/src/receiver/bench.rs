@@ -8,7 +8,7 @@ use crate::tally::Group;
 use catkhize::{calls, layout};
 
 /// The octets of a slot.
-const SLOT: usize = 255;
+pub const SLOT: usize = 255;
 
 /// Where services, end and stated length stand in a record.
 const NOTED: std::ops::Range<usize> = 25..33;
@@ -23,15 +23,15 @@ const RECEIVED: u8 = 10;
 
 /// The buffers of a call. Each is longer than what the call uses or is lent.
 #[derive(Clone)]
-struct Lent {
-    answer: Vec<u8>,
-    record: Vec<u8>,
-    store: Vec<u8>,
-    output: Vec<u8>,
+pub struct Lent {
+    pub answer: Vec<u8>,
+    pub record: Vec<u8>,
+    pub store: Vec<u8>,
+    pub output: Vec<u8>,
 }
 
 impl Lent {
-    fn new() -> Self {
+    pub fn new() -> Self {
         Self {
             answer: filled(layout::RECEPTION + PAST),
             record: filled(layout::RECEIVER + PAST),
@@ -40,7 +40,7 @@ impl Lent {
         }
     }
 
-    fn differences(&self, wanted: &Self) -> [Option<String>; 4] {
+    pub fn differences(&self, wanted: &Self) -> [Option<String>; 4] {
         [
             difference(&self.answer, &wanted.answer),
             difference(&self.record, &wanted.record),
@@ -81,7 +81,7 @@ struct Bench<'a> {
 }
 
 /// RESPONSE. Its status says how the reception stands, or that nothing came in time.
-fn response(outcome: Outcome, state: State, map: Map) -> [u8; layout::RESPONSE] {
+pub fn response(outcome: Outcome, state: State, map: Map) -> [u8; layout::RESPONSE] {
     let status = match (outcome, state) {
         (Outcome::Asks, _) => INTER_SEGMENT_TIMEOUT,
         (_, State::Complete) => RECEIVED,
@@ -96,7 +96,11 @@ fn response(outcome: Outcome, state: State, map: Map) -> [u8; layout::RESPONSE] 
 }
 
 /// RECEPTION of a receive, REPLY of an advance; a cancel has no answer.
-fn answer(kind: Kind, response: Option<[u8; layout::RESPONSE]>, message: Option<u64>) -> Vec<u8> {
+pub fn answer(
+    kind: Kind,
+    response: Option<[u8; layout::RESPONSE]>,
+    message: Option<u64>,
+) -> Vec<u8> {
     match kind {
         Kind::Cancel => Vec::new(),
         Kind::Advance => flagged(response),
