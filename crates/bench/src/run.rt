@@ -7,208 +7,224 @@ use crate::input::LINE;
 use crate::input::MAX_LINE;
 use crate::input::Text;
 use crate::input::next_line;
+use crate::section;
 use crate::session;
+use crate::session::Counts;
 use crate::session::MEMORY;
 use crate::session::Memory;
 use crate::session::STORE;
 use crate::session::Store;
+use crate::session::more;
 use capture::form::WordFault;
 use capture::line::Line;
+use capture::line::opens;
 use capture::line::read_line;
 use capture::octet::OctetFault;
-use capture::text::from;
 use capture::text::front;
-use report::answer::say_standing;
+use capture::text::unmarked;
 use report::fault::say_octet_fault;
 use report::fault::say_word_fault;
-use report::layout::number_at;
-use report::row::say_row;
+use report::outcome::Event;
+use report::outcome::Told;
+use report::outcome::is_past;
+use report::outcome::note;
 use report::say;
-
-// Every octet of the store and of the output before the first call.
-const FILL: u8 = 0xA5;
 
 // The most octets that a line can spell.
 const OCTETS: usize = 4096;
 
-// The octets of a row of the dump.
-const ROW: usize = 16;
-
-// How many lines there are, and what became of them.
-struct Counts {
-    lines: u64,
-    calls_taken: u64,
-    calls_refused: u64,
-    lines_refused: u64,
+fn bad_line(counts: &mut Counts) -> Event {
+    say::end_line();
+    counts[session::LINES_REFUSED] = more(counts[session::LINES_REFUSED]);
+    Event::BadLine
 }
 
-// One more, as far as numbers go.
-fn more(n: u64) -> u64 {
-    if n < u64::MAX { n + 1 } else { n }
-}
-
-impl Counts {
-    fn none() -> Counts {
-        Counts {
-            lines: 0,
-            calls_taken: 0,
-            calls_refused: 0,
-            lines_refused: 0,
-        }
-    }
-
-    // With one more line, and what became of it.
-    fn with(mut self, fate: u8) -> Counts {
-        if fate == session::NO_LINE {
-            return self;
-        }
-        self.lines = more(self.lines);
-        if fate == session::CALL_TAKEN {
-            self.calls_taken = more(self.calls_taken);
-            return self;
-        }
-        if fate == session::CALL_REFUSED {
-            self.calls_refused = more(self.calls_refused);
-            return self;
-        }
-        if fate == session::LINE_REFUSED {
-            self.lines_refused = more(self.lines_refused);
-        }
-        self
-    }
-}
-
-fn bad_word(lines: u64, f: WordFault, i: usize) -> u8 {
-    say::say(say::LINE_REFUSED, lines, 0);
+fn bad_word(f: WordFault, i: usize, counts: &mut Counts) -> Event {
+    say::say(say::LINE_REFUSED, counts[session::LINES], 0);
     say_word_fault(f, i);
-    say::end_line();
-    session::LINE_REFUSED
+    bad_line(counts)
 }
 
-fn bad_octets(lines: u64, f: OctetFault, i: usize) -> u8 {
-    say::say(say::LINE_REFUSED, lines, 0);
+fn bad_octets(f: OctetFault, i: usize, counts: &mut Counts) -> Event {
+    say::say(say::LINE_REFUSED, counts[session::LINES], 0);
     say_octet_fault(f, i);
-    say::end_line();
-    session::LINE_REFUSED
+    bad_line(counts)
+}
+
+// The advance that a bench makes before a segment that comes past the deadline.
+fn waited(
+    told: Told,
+    waits: bool,
+    reading: u64,
+    counts: &mut Counts,
+    memory: &mut Memory,
+    store: &mut Store,
+) -> Told {
+    if !waits {
+        return told;
+    }
+    if !is_past(reading, memory) {
+        return told;
+    }
+    note(told, session::wait(counts, memory, store))
 }
 
 // Does what a line says.
-fn act(lines: u64, line: &[u8], memory: &mut Memory, store: &mut Store, output: &mut Store) -> u8 {
-    let mut octets = [0u8; OCTETS];
-    match read_line(line, &mut octets) {
-        Line::Nothing => session::NOTHING,
-        Line::Receiver(h) => session::open(lines, h, memory),
-        Line::Advance(reading) => session::advance(lines, reading, memory, store),
-        Line::Cancel(reading) => session::cancel(lines, reading, memory, store),
-        Line::Segment(reading, n) => {
-            session::segment(lines, reading, front(&octets, n), memory, store, output)
-        }
-        Line::BadWord(f, i) => bad_word(lines, f, i),
-        Line::BadOctets(f, i) => bad_octets(lines, f, i),
-    }
-}
-
-// What came of reading line number lines, whose first octets stand in line.
-fn take(
-    lines: u64,
-    input: Input,
-    line: &Text,
+fn act(
+    told: Told,
+    waits: bool,
+    line: &[u8],
+    counts: &mut Counts,
     memory: &mut Memory,
     store: &mut Store,
     output: &mut Store,
-) -> u8 {
+) -> Told {
+    let mut octets = [0u8; OCTETS];
+    match read_line(line, &mut octets) {
+        Line::Nothing => told,
+        Line::Receiver(h) => note(told, session::open(h, counts, memory)),
+        Line::Advance(reading) => note(told, session::advance(reading, counts, memory, store)),
+        Line::Cancel(reading) => note(told, session::cancel(reading, counts, memory, store)),
+        Line::Segment(reading, n) => note(
+            waited(told, waits, reading, counts, memory, store),
+            session::segment(reading, front(&octets, n), counts, memory, store, output),
+        ),
+        Line::BadWord(f, i) => note(told, bad_word(f, i, counts)),
+        Line::BadOctets(f, i) => note(told, bad_octets(f, i, counts)),
+    }
+}
+
+// The text of line number n: before the first a mark of byte order may stand.
+fn text_of(n: u64, s: &[u8]) -> &[u8] {
+    if n == 1 {
+        return unmarked(s);
+    }
+    s
+}
+
+// A section begins with a line whose first word is receiver, whether the line can be read or not.
+fn begun(
+    told: Told,
+    line: &[u8],
+    counts: &mut Counts,
+    memory: &mut Memory,
+    store: &mut Store,
+    output: &mut Store,
+) -> Told {
+    if opens(line) {
+        return section::begin(told, counts, memory, store, output);
+    }
+    told
+}
+
+// What came of reading a line, whose first octets stand in line.
+fn take(
+    told: Told,
+    waits: bool,
+    input: Input,
+    line: &Text,
+    counts: &mut Counts,
+    memory: &mut Memory,
+    store: &mut Store,
+    output: &mut Store,
+) -> Told {
     if input.got != LINE {
-        return session::NO_LINE;
+        return told;
     }
+    counts[session::LINES] = more(counts[session::LINES]);
+    let text = text_of(counts[session::LINES], front(line, input.have));
+    let told = begun(told, text, counts, memory, store, output);
     if MAX_LINE < input.have {
-        return session::refuse(lines, say::TOO_LONG);
+        return note(
+            told,
+            session::refuse(say::TOO_LONG, MAX_LINE as u64, counts),
+        );
     }
-    act(lines, front(line, input.have), memory, store, output)
+    act(told, waits, text, counts, memory, store, output)
+}
+
+// A capture that cannot be read to its end leaves its last section spoilt.
+fn stopped(told: Told, got: u8) -> Told {
+    if got == FAILED {
+        os::fail(b"capture");
+        say::say(say::STOPPED, 0, 0);
+        say::end_line();
+        return note(told, Event::BadLine);
+    }
+    told
 }
 
 // A capture ends, but nothing says so: the turns are counted down from a number that no capture uses up.
 fn all(
+    told: Told,
+    waits: bool,
     fd: i32,
     chunk: &mut Chunk,
     line: &mut Text,
+    counts: &mut Counts,
     memory: &mut Memory,
     store: &mut Store,
     output: &mut Store,
-) -> Counts {
-    let mut counts = Counts::none();
+) -> Told {
+    let mut told = told;
     let mut input = Input::start();
     let mut turns = u64::MAX;
     while turns > 0 && input.got == LINE {
         turns -= 1;
         input = next_line(input, fd, chunk, line);
-        let fate = take(more(counts.lines), input, line, memory, store, output);
-        counts = counts.with(fate);
+        told = take(told, waits, input, line, counts, memory, store, output);
     }
-    say_failure(input.got);
-    counts
+    section::finish(stopped(told, input.got), counts, memory, output)
 }
 
-fn say_failure(got: u8) {
-    if got == FAILED {
-        os::fail(b"capture");
-        say::say(say::STOPPED, 0, 0);
-        say::end_line();
-    }
-}
-
-// Octets, a row at a time.
-fn dump(s: &[u8]) {
-    let mut at: usize = 0;
-    while at < s.len() {
-        say_row(at, front(from(s, at), ROW));
-        at += ROW;
-    }
-}
-
-fn say_none(memory: &Memory) {
-    if memory[0] != 0 {
-        say_standing(memory, from(memory, session::LAST_HELD));
-        return;
-    }
-    say::say(say::NO_RECEIVER, 0, 0);
+// The counts of one capture.
+fn say_counts(counts: &Counts) {
+    say::say(
+        say::CAPTURE,
+        counts[session::LINES],
+        counts[session::CALLS_TAKEN],
+    );
+    say::say(
+        say::CAPTURE + 1,
+        counts[session::CALLS_REFUSED],
+        counts[session::LINES_REFUSED],
+    );
+    say::say(
+        say::CAPTURE + 2,
+        counts[session::SECTIONS],
+        counts[session::REBUILT],
+    );
     say::end_line();
 }
 
-// The last line of a capture.
-fn say_end(counts: Counts, result: usize) {
-    say::say(say::END, counts.lines, counts.calls_taken);
-    say::say(say::END + 1, counts.calls_refused, counts.lines_refused);
-    say::say(result, 0, 0);
-    say::end_line();
+fn clear(counts: &mut Counts) {
+    counts[session::LINES] = 0;
+    counts[session::CALLS_TAKEN] = 0;
+    counts[session::CALLS_REFUSED] = 0;
+    counts[session::LINES_REFUSED] = 0;
+    counts[session::SECTIONS] = 0;
+    counts[session::REBUILT] = 0;
 }
 
-// The record, or what is missing.
-fn conclude(counts: Counts, memory: &Memory, output: &Store) {
-    if memory[session::RECORD] == 0 {
-        say_none(memory);
-        say_end(counts, say::RESULTS);
-        return;
-    }
-    let n = number_at(memory, session::RECORD + 1);
-    say::say(say::RECORD, n, 0);
-    say::end_line();
-    dump(front(output, n as usize));
-    say_end(counts, say::RESULTS + 1);
-}
-
-pub fn capture(fd: i32) {
+// One capture: waits says whether the bench's own advances are made.
+pub fn capture(told: Told, waits: bool, fd: i32, counts: &mut Counts) -> Told {
     let mut chunk = [0u8; CHUNK];
     let mut line = [0u8; MAX_LINE];
     let mut memory = [0u8; MEMORY];
-    let mut store = [FILL; STORE];
-    let mut output = [FILL; STORE];
-    let counts = all(
+    let mut store = [section::FILL; STORE];
+    let mut output = [section::FILL; STORE];
+    clear(counts);
+    let told = all(
+        told,
+        waits,
         fd,
         &mut chunk,
         &mut line,
+        counts,
         &mut memory,
         &mut store,
         &mut output,
     );
-    conclude(counts, &memory, &output);
+    say_counts(counts);
+    told
 }

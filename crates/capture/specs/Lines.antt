@@ -106,3 +106,9 @@ textLine t out =
 
 abbrev pub lineOf : List ℕ → List ℕ → Reading
 lineOf l out = textLine (text l) out
+
+-- ---- sections
+
+-- a line opens a section by its first word alone, whatever follows it
+abbrev pub opening : List ℕ → Bool
+opening l = is keyword.Receiver (word (text l))

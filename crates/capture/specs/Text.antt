@@ -4,6 +4,7 @@ use mathlib.Core.Bool.{Bool, true, false, cond, not, _&&_, _||_}
 use mathlib.Core.List.{List, [], _∷_}
 use lib.Dec.{eqb, leb}
 use lib.ListN.{length, take, drop}
+use Rattle.octets.specs.Octets.{sameOctets}
 use Rattle.capture.specs.declared.text.Class.{Class}
 use Rattle.capture.specs.declared.text.Class.the-variants as class
 
@@ -52,3 +53,10 @@ after l = drop (wordEnd l) l
 unfoldable pub wordAt : List ℕ → ℕ → List ℕ
 wordAt l zero = word l
 wordAt l (suc i) = wordAt (after l) i
+
+-- the mark of byte order, which may stand before a capture, and a capture without it
+abbrev pub mark : List ℕ
+mark = 239 ∷ 187 ∷ 191 ∷ []
+
+abbrev pub unmarked : List ℕ → List ℕ
+unmarked l = cond (sameOctets (take 3 l) mark) (drop 3 l) l

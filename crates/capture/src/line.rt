@@ -23,7 +23,7 @@ use crate::text::word_end;
 use link::HigherLayerProtocol;
 use link::MobileIdentity;
 ghost use mathlib.Core.Path.{_≡_};
-ghost use Rattle.capture.specs.Lines.{protocolOf, peerOf, headerOf, receiverLine, advanceLine, cancelLine, octetsAfter, segmentLine, textLine, lineOf, read};
+ghost use Rattle.capture.specs.Lines.{protocolOf, peerOf, headerOf, receiverLine, advanceLine, cancelLine, octetsAfter, segmentLine, textLine, lineOf, opening, read};
 
 // What a receiver is made with.
 pub struct Header {
@@ -157,4 +157,11 @@ pub fn read_line(s: &[u8], out: &mut [u8]) -> Line
     ensures { λ r. ⌜ read r (now (out .exit)) ≡ lineOf (now (s .entry)) (now (out .entry)) ⌝ }
 {
     text_line(front(s, run(Class::Text, s)), out)
+}
+
+// Whether a line opens a section of a capture: its first word is receiver, whatever follows it.
+pub fn opens(s: &[u8]) -> bool
+    ensures { λ r. ⌜ r ≡ opening (now (s .entry)) ⌝ }
+{
+    is_keyword(Keyword::Receiver, word(front(s, run(Class::Text, s))))
 }

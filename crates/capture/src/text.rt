@@ -2,7 +2,7 @@
 ghost use mathlib.Core.Path.{_≡_};
 ghost use Prim.Native.Nat.{_≤_, _-_};
 ghost use lib.ListN.{length, take, drop};
-ghost use Rattle.capture.specs.Text.{within as withinOf, blank, inClass, leading, trim, wordEnd, word as wordOf, after as afterOf, wordAt};
+ghost use Rattle.capture.specs.Text.{within as withinOf, blank, inClass, leading, trim, wordEnd, word as wordOf, after as afterOf, wordAt, unmarked as unmarkedOf};
 
 const TAB: u8 = 9;
 
@@ -17,6 +17,9 @@ const HASH: u8 = 35;
 const ZERO: u8 = 48;
 
 const NINE: u8 = 57;
+
+// The octets of the mark of byte order that some programs write before a text.
+const MARK_OCTETS: usize = 3;
 
 // What a run is made of: the characters of a line, those before a comment, blanks, those of a word, decimal digits.
 pub enum Class {
@@ -137,4 +140,14 @@ pub fn word_at(s: &[u8], i: usize) -> &[u8]
         k += 1;
     }
     word(t)
+}
+
+// A text without the mark of byte order that may stand before it.
+pub fn unmarked(s: &[u8]) -> &[u8]
+    ensures { λ r. ⌜ now r ≡ unmarkedOf (now (s .entry)) ⌝ }
+{
+    if octets::same(front(s, MARK_OCTETS), b"\xEF\xBB\xBF") {
+        return from(s, MARK_OCTETS);
+    }
+    s
 }

@@ -1,17 +1,35 @@
 // Where things stand in the layouts of docs/EXPORTS.md, and how they are read there.
 use capture::text::from;
 use image::numbers::number64;
+ghost use mathlib.Core.Path.{_≡_};
+ghost use lib.ListN.{getD};
+ghost use Rattle.report.specs.Outcome.{numberAt};
 
-// DECODED: sequence, kind, data length, unparsed octets.
+// DECODED: transaction, sequence, kind, stated length with its flag, services with theirs, of which the window; data length, unparsed octets.
+pub const SEGMENT_TRANSACTION: usize = 0;
+
 pub const SEQUENCE: usize = 1;
 
 pub const KIND: usize = 2;
+
+pub const SEGMENT_STATED: usize = 3;
+
+pub const SERVICES: usize = 6;
+
+pub const WINDOW: usize = 8;
 
 pub const DATA_LENGTH: usize = 15;
 
 pub const UNPARSED: usize = 23;
 
 pub const DECODED_OCTETS: usize = 31;
+
+// The kinds of segments.
+pub const BEGIN: u8 = 0;
+
+pub const CONTINUE: u8 = 1;
+
+pub const END_KIND: u8 = 2;
 
 // RECEPTION, whose front is REPLY: flag, transaction, status, entries, marks, support flag, supports; message flag and number of octets.
 pub const TRANSACTION: usize = 1;
@@ -28,7 +46,8 @@ pub const MESSAGE: usize = 42;
 
 pub const RECEPTION_OCTETS: usize = 51;
 
-// RECEIVER: peer kind, width and value; protocol and its octet; version; state; end flag and end; deadline flag and deadline; held marks.
+// RECEIVER: peer kind, width and value; protocol and its octet; transaction; version; maximum; state, with a status; end, stated length and
+// deadline, each with its flag; stored octets; held marks; data lengths.
 pub const PEER_KIND: usize = 1;
 
 pub const PEER_WIDTH: usize = 2;
@@ -39,25 +58,48 @@ pub const PROTOCOL: usize = 11;
 
 pub const PROTOCOL_OCTET: usize = 12;
 
+pub const RECEIVER_TRANSACTION: usize = 13;
+
 pub const VERSION: usize = 14;
+
+pub const MAXIMUM: usize = 15;
 
 pub const STATE: usize = 23;
 
 pub const END: usize = 28;
 
+pub const STATED: usize = 30;
+
+pub const STORED: usize = 33;
+
 pub const DEADLINE: usize = 41;
 
 pub const HELD: usize = 58;
 
+pub const LENGTHS: usize = 90;
+
 pub const RECEIVER_OCTETS: usize = 3930;
 
+// The state that has a status.
+pub const FAILED: u8 = 3;
+
 // The octet at a place; 0 past the end.
-pub fn octet(s: &[u8], at: usize) -> u8 {
+pub fn octet(s: &[u8], at: usize) -> u8
+    ensures { λ r. ⌜ r ≡ getD (now (s .entry)) at 0 ⌝ }
+{
     if at < s.len() { s[at] } else { 0 }
 }
 
+// The number of 16 bits at a place, as far as the octets go.
+pub fn pair_at(s: &[u8], at: usize) -> u64 {
+    let t = from(s, at);
+    256 * octet(t, 0) as u64 + octet(t, 1) as u64
+}
+
 // The number of 64 bits at a place; 0 past the end.
-pub fn number_at(s: &[u8], at: usize) -> u64 {
+pub fn number_at(s: &[u8], at: usize) -> u64
+    ensures { λ r. ⌜ r ≡ numberAt (now (s .entry)) at ⌝ }
+{
     let t = from(s, at);
     if t.len() < 8 {
         return 0;

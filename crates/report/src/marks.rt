@@ -7,7 +7,7 @@ pub const MARKS_OCTETS: usize = 32;
 
 const SEQUENCES: usize = 256;
 
-fn mark(marks: &[u8], i: usize) -> bool {
+pub fn is_marked(marks: &[u8], i: usize) -> bool {
     (octet(marks, i / 8 ^ 7) >> (i % 8)) % 2 == 1
 }
 
@@ -16,7 +16,7 @@ fn find(marks: &[u8], n: usize, a: usize, set: bool) -> usize
     ensures { λ r. ⌜ a ≤ r ⌝ }
 {
     let mut i = a;
-    while i < n && mark(marks, i) != set {
+    while i < n && is_marked(marks, i) != set {
         i += 1;
     }
     i
@@ -27,7 +27,7 @@ pub fn top(marks: &[u8]) -> usize
     ensures { λ r. ⌜ r ≤ 256 ⌝ }
 {
     let mut n = SEQUENCES;
-    while 0 < n && !mark(marks, n - 1) {
+    while 0 < n && !is_marked(marks, n - 1) {
         n -= 1;
     }
     n

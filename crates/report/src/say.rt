@@ -11,85 +11,137 @@ ghost use Rattle.report.specs.Writing.{pastBy};
 
 pub const CALL: usize = 0;
 
-pub const LINE_REFUSED: usize = 1;
+pub const SINCE: usize = 1;
 
-pub const RECEIVER: usize = 2;
+pub const COLON: usize = 3;
 
-pub const MAXIMUM: usize = 3;
+pub const BENCH: usize = 4;
 
-pub const ADVANCE: usize = 4;
+pub const LINE_REFUSED: usize = 5;
 
-pub const CANCEL: usize = 5;
+pub const SECTION: usize = 6;
 
-pub const SEGMENT: usize = 6;
+pub const RECEIVER: usize = 7;
 
-pub const KINDS: usize = 7;
+pub const PEER: usize = 8;
 
-pub const REFUSED: usize = 10;
+pub const TRANSACTION: usize = 10;
 
-pub const TAKEN: usize = 12;
+pub const TERMS: usize = 11;
 
-pub const RESPONSE: usize = 13;
+pub const MADE: usize = 13;
 
-pub const MAP: usize = 14;
+pub const ADVANCE: usize = 14;
 
-pub const SUPPORTED: usize = 15;
+pub const CANCEL: usize = 15;
 
-pub const HANDED_OVER: usize = 20;
+pub const SEGMENT: usize = 16;
 
-pub const NOW: usize = 21;
+pub const KINDS: usize = 17;
 
-pub const STANDING: usize = 22;
+pub const DATA: usize = 20;
 
-pub const DEADLINES: usize = 23;
+pub const WINDOWS: usize = 21;
 
-pub const LAST_HELD: usize = 25;
+pub const STATES_LENGTH: usize = 27;
 
-pub const MISSING: usize = 26;
+pub const NEW: usize = 28;
 
-pub const RUNS: usize = 27;
+pub const REFUSED: usize = 30;
 
-pub const NONE: usize = 29;
+pub const SPACE: usize = 32;
 
-pub const ALL: usize = 30;
+pub const TAKEN: usize = 33;
 
-pub const FOLLOWING: usize = 31;
+pub const FAILS: usize = 34;
 
-pub const NO_RECEIVER: usize = 32;
+pub const SO_FAR: usize = 35;
 
-pub const RECORD: usize = 33;
+pub const OCTETS: usize = 37;
 
-pub const END: usize = 34;
+pub const RESPONSE: usize = 38;
 
-pub const RESULTS: usize = 36;
+pub const MAP: usize = 39;
 
-pub const TOO_LONG: usize = 38;
+pub const SUPPORTED: usize = 40;
 
-pub const MISPLACED: usize = 39;
+pub const HANDED_OVER: usize = 45;
 
-pub const STATUS: usize = 41;
+pub const NOW: usize = 46;
 
-pub const STATUSES: usize = 42;
+pub const RESULT: usize = 47;
 
-pub const STATES: usize = 56;
+pub const UNNAMED: usize = 48;
 
-pub const WORD_FAULTS: usize = 62;
+pub const REBUILT: usize = 49;
 
-pub const OCTET_FAULTS: usize = 67;
+pub const NOT_REBUILT: usize = 50;
 
-pub const FORMS: usize = 70;
+pub const WAS_HANDED: usize = 51;
 
-pub const HEADING: usize = 86;
+pub const BUT_FAILED: usize = 52;
 
-pub const STOPPED: usize = 87;
+pub const BUT_BAD: usize = 53;
 
-pub const NOT_OPENED: usize = 88;
+pub const CALLS_REFUSED: usize = 54;
 
-pub const NO_PATH: usize = 89;
+pub const AT_LINE: usize = 55;
 
-pub const FIELDS: usize = 90;
+pub const STANDING: usize = 56;
 
-pub const REFUSALS: usize = 97;
+pub const DEADLINES: usize = 57;
+
+pub const LAST_HELD: usize = 59;
+
+pub const MISSING: usize = 60;
+
+pub const RUNS: usize = 61;
+
+pub const NONE: usize = 63;
+
+pub const ALL: usize = 64;
+
+pub const FOLLOWING: usize = 65;
+
+pub const NO_RECEIVER: usize = 66;
+
+pub const LINES_LOST: usize = 67;
+
+pub const NO_SECTION: usize = 68;
+
+pub const CAPTURE: usize = 69;
+
+pub const END: usize = 72;
+
+pub const RESULTS: usize = 74;
+
+pub const TOO_LONG: usize = 76;
+
+pub const MISPLACED: usize = 77;
+
+pub const STATUS: usize = 78;
+
+pub const STATUSES: usize = 79;
+
+pub const REASONS: usize = 93;
+
+pub const STATES: usize = 108;
+
+pub const WORD_FAULTS: usize = 114;
+
+pub const OCTET_FAULTS: usize = 119;
+
+pub const FORMS: usize = 122;
+
+pub const HEADING: usize = 138;
+
+pub const STOPPED: usize = 139;
+
+pub const NOT_OPENED: usize = 140;
+
+pub const FIELDS: usize = 141;
+
+pub const REFUSALS: usize = 148;
 
 // Past the last of them: no text.
 pub const NOTHING: usize = 255;
@@ -174,40 +226,28 @@ fn say_text(form: &[u8], a: u64, b: u64) {
 pub fn say(n: usize, a: u64, b: u64) {
     say_text(
         word_at(
-            b"line_%_at_%:_ \
-            line_%_refused:_ \
-            receiver,_transaction_%,_version_% \
-            ,_maximum_% \
-            advance \
-            cancel \
-            segment_of_%_octet~ \
-            Begin_%,_%_octet~ Continue_%,_%_octet~ End_%,_%_octet~ \
-            :_refused_%_ :_refused_%/%_ \
-            :_taken \
-            ;_response:_transaction_%,_status \
-            ,_map_of_%,_missing \
-            ,_supported _compression _encryption _window _CRC \
-            ;_record_of_octets_% \
-            ;_now_ \
-            no_record:_state_ \
-            ,_deadline_none ,_deadline_% \
-            ,_last_held \
-            ,_missing \
-            _%-% _% \
-            _none \
-            _all \
-            ,_and_what_follows_%_(no_End) \
-            no_record:_no_receiver_was_made \
-            record_of_%_octet~ \
-            end:_lines_%,_calls_taken_% ,_calls_refused_%,_lines_refused_% \
-            ;_no_record ;_record_rebuilt \
-            line_too_long \
-            no_receiver_was_made_before_it a_receiver_was_made_before \
-            _%_ \
-            Continuing InterSegmentTimeout Aborted CrcSelectionUnsupported CompressionUnsupported EncryptionUnsupported \
-            AcknowledgmentWindowUnsupported ProtocolUnsupported MessageLengthError MessageTooLong Received \
-            DuplicateSizeMismatch CrcError MultipleServicesUnsupported \
-            AwaitingBegin Receiving Complete Failed Expired Canceled \
+            b"line_%_at_% ,_%_ms_after_the_last ,_%_ms_before_the_last :_ bench:_advance_at_%,_before_line_% line_%_refused:_ \
+            section_%,_from_line_% receiver_of _peer_%_% _% ,_transaction_% ,_version_% ,_maximum_% :_made advance cancel \
+            segment_of_%_octet~ Begin_% Continue_% End_% ,_%_octet~ \
+            ,_window_Prohibited ,_window_Every4 ,_window_Every8 ,_window_Every16 ,_window_Last ,_window_Exceptions ,_states_% \
+            ,_new ,_repeat :_refused_% :_refused_%/% _ :_taken :_fails_the_reception,_status ,_%_octet~_so_far ,_%_of_%_octets \
+            ;_octets ;_response:_transaction_%,_status ,_map_of_%,_missing ,_supported _compression _encryption _window _CRC \
+            ;_hands_over_a_record_of_%_octet~ ;_now_ section_%, _peer_and_transaction_unknown rebuilt,_a_record_of_%_octet~ \
+            not_rebuilt,_ a_record_of_%_octet~_was_handed_over ,_and_the_reception_failed_after_it,_status \
+            ,_and_a_line_was_refused_for_its_form ,_%_call~_refused _at_line_% no_record:_state_ ,_deadline_none ,_deadline_% \
+            ,_last_held ,_missing _%-% _% _none _all ,_and_what_follows_%_(no_End) no_record:_no_receiver_was_made \
+            not_rebuilt,_lines_were_refused_before_the_first_receiver_line not_rebuilt,_there_is_no_receiver_line \
+            capture:_lines_%,_calls_taken_% ,_calls_refused_%,_lines_refused_% ;_sections_%,_rebuilt_% \
+            end:_captures_% ,_sections_%,_rebuilt_% ;_not_every_record_rebuilt ;_every_record_rebuilt \
+            it_has_more_than_%_characters it_belongs_to_no_receiver _% \
+            _Continuing _InterSegmentTimeout _Aborted _CrcSelectionUnsupported _CompressionUnsupported _EncryptionUnsupported \
+            _AcknowledgmentWindowUnsupported _ProtocolUnsupported _MessageLengthError _MessageTooLong _Received \
+            _DuplicateSizeMismatch _CrcError _MultipleServicesUnsupported \
+            _(held_with_%_octet~,_came_again_with_%) _(segment_%_came_again_and_differs) _(a_Continue_at_255) \
+            _(the_Begin_asks_for_a_CRC) _(the_End_carries_a_CRC) _(an_End_at_0) _(an_End_at_%,_but_the_End_is_at_%) \
+            _(an_End_at_%,_but_segment_%_is_held) _(segment_%_is_past_the_End_at_%) _(stated_%_before,_now_%) _(stated_%,_got_%) \
+            _(states_%,_maximum_%) _(got_%,_maximum_%) _(the_Begin_asks_for_compression) \
+            _(the_Begin_asks_for_compression_and_a_CRC) AwaitingBegin Receiving Complete Failed Expired Canceled \
             word_%_is_missing:_it_should_be_ word_%_should_be_ word_%_is_too_large:_it_should_be_ word_%_is_one_too_many \
             word_%_is_no_clock_reading_and_not_receiver,_advance_or_cancel \
             character_%:_no_hexadecimal_digit character_%:_an_octet_ends_after_one_digit \
@@ -215,16 +255,14 @@ pub fn say(n: usize, a: u64, b: u64) {
             the_word_receiver the_word_peer the_word_protocol the_word_segmented the_word_carrier the_word_other \
             the_word_transaction the_word_version the_word_maximum the_word_at the_word_advance the_word_cancel \
             a_number_from_0_to_255 a_number_from_0_to_18446744073709551615 segmented,_carrier_or_other \
-            an_octet_of_two_hexadecimal_digits \
-            ==_ \
-            the_capture_cannot_be_read_on \
-            end:_the_capture_cannot_be_opened;_no_record \
-            end:_the_argument_is_no_path;_no_record \
+            an_octet_of_two_hexadecimal_digits ==_ the_capture_cannot_be_read_on not_rebuilt,_the_capture_cannot_be_opened \
             TransactionId SegmentDataLength BeginSequenceNumber MessageLength Crc24 AcknowledgmentMapLength \
             OptionalServicesSupportStatus \
-            Version Truncated Protocol MessageType UnsupportedResponse Field Reserved DuplicateParameter Identity Service \
-            TransactionId ClockRegression TimeOverflow UnparsedSegment BeginRequired TimerDue Closed Store Output \
-            ImpossibleState",
+            Version Truncated Protocol MessageType UnsupportedResponse Field Reserved DuplicateParameter PayloadBudget \
+            HeaderCapacity SegmentCount FrozenPlan JoinedLength Identity Service TransactionId ClockRegression TimeOverflow \
+            UnparsedSegment BeginRequired TimerDue Closed Plan CounterOverflow StaleSubmission NotSubmitted ReceiptTime Peer \
+            ResponsesProhibited UnparsedResponse UnsubmittedAcknowledgment ContradictoryReceipt Store Output ImpossibleState \
+            Tickets BufferTooShort NoValueSpelled NoCaseNamed",
             n,
         ),
         a,

@@ -13,11 +13,11 @@ abbrev μ-loop : tie.MeasureT-loop
 loop-holds : tie.Need-loop-holds Inv-loop μ-loop
 loop-holds c = search needs
 
-sub-mark : tie.Need-sub-mark Inv-loop μ-loop
-sub-mark c = search needs
+sub-is-marked : tie.Need-sub-is-marked Inv-loop μ-loop
+sub-is-marked c = search needs
 
-mark-requires : tie.Need-mark-requires Inv-loop μ-loop
-mark-requires c κs = search needs
+is-marked-requires : tie.Need-is-marked-requires Inv-loop μ-loop
+is-marked-requires c κs = search needs
 
 sub-n : tie.Need-sub-n Inv-loop μ-loop
 sub-n c = search needs
@@ -35,4 +35,4 @@ returns-2 : tie.Need-returns-2 Inv-loop μ-loop
 returns-2 c = search needs
 
 pub top-spec : {M : Type 1} → statement M
-top-spec = tie.close (tie.spec Inv-loop μ-loop loop-holds sub-mark mark-requires sub-n loop-less loop-again returns returns-2)
+top-spec = tie.close (tie.spec Inv-loop μ-loop loop-holds sub-is-marked is-marked-requires sub-n loop-less loop-again returns returns-2)

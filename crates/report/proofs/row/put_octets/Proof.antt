@@ -1,5 +1,5 @@
 -- `report::row::put_octets` is safe and ends. The measure is how many octets are left; the lent octets keep their number. Assumes nothing.
-use Prim.Native.Nat.{_-_, _≤_}
+use Prim.Native.Nat.{_-_}
 use mathlib.Core.Path.{_≡_, refl}
 use lib.ListN.{length}
 use borrow.Author.Needs.{needs}
@@ -7,25 +7,37 @@ use Rattle.report.proofs.row.put_octets.Statement.{statement}
 use Rattle.report.proofs.row.put_octets.Tie as tie
 
 abbrev Inv-loop : tie.InvT-loop
-Inv-loop out₀ s at₀ i₀ out at i = length out ≡ length out₀
+Inv-loop out₀ s at₀ end₀ i₀ out at end i = length out ≡ length out₀
 
 abbrev μ-loop : tie.MeasureT-loop
-μ-loop out₀ s at₀ i₀ out at i = length s - i
+μ-loop out₀ s at₀ end₀ i₀ out at end i = length s - i
+
+sub-put : tie.Need-sub-put Inv-loop μ-loop
+sub-put c = search needs
+
+slice-aggregate-put : tie.Need-slice-aggregate-put Inv-loop μ-loop
+slice-aggregate-put c = search needs
+
+put-requires : tie.Need-put-requires Inv-loop μ-loop
+put-requires c κs = search needs
 
 loop-holds : tie.Need-loop-holds Inv-loop μ-loop
 loop-holds c = refl
 
-past-requires : tie.Need-past-requires Inv-loop μ-loop
-past-requires c κs = search needs
-
 octet-requires : tie.Need-octet-requires Inv-loop μ-loop
 octet-requires c κs = search needs
+
+past-requires : tie.Need-past-requires Inv-loop μ-loop
+past-requires c κs = search needs
 
 cast-hex : tie.Need-cast-hex Inv-loop μ-loop
 cast-hex c = search needs
 
 hex-requires : tie.Need-hex-requires Inv-loop μ-loop
 hex-requires c κs = search needs
+
+put-character-requires : tie.Need-put-character-requires Inv-loop μ-loop
+put-character-requires c κs = search needs
 
 add-i : tie.Need-add-i Inv-loop μ-loop
 add-i c = search needs
@@ -48,11 +60,15 @@ put-octets-spec =
     (tie.spec
     Inv-loop
     μ-loop
+    sub-put
+    slice-aggregate-put
+    put-requires
     loop-holds
-    past-requires
     octet-requires
+    past-requires
     cast-hex
     hex-requires
+    put-character-requires
     add-i
     loop-less
     loop-again

@@ -1,9 +1,9 @@
--- `bench::run::dump` is safe and ends. The measure is how many octets are left. Assumes nothing.
+-- `bench::section::dump` is safe and ends. The measure is how many octets are left. Assumes nothing.
 use Prim.Native.Nat.{_-_}
 use lib.ListN.{length}
 use borrow.Author.Needs.{needs}
-use Rattle.bench.proofs.run.dump.Statement.{statement}
-use Rattle.bench.proofs.run.dump.Tie as tie
+use Rattle.bench.proofs.section.dump.Statement.{statement}
+use Rattle.bench.proofs.section.dump.Tie as tie
 
 abbrev Inv-loop : tie.InvT-loop
 Inv-loop s at₀ at = Unit {0}

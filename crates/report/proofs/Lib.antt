@@ -1,0 +1,2 @@
+-- What the summary of a section, and of all sections, comes to.
+pub mod Summing
