@@ -17,9 +17,10 @@
  * What a call changes. Record, plan and answer buffers may be longer than their layout: only the first
  * octets are read or written. A call writes its answer only where it gives CATKHIZE_DONE
  * (catkhize_receiver_train also where document 01 refuses). A call that is refused changes nothing,
- * except in the late cases that catkhize_receiver_receive, catkhize_receiver_train,
- * catkhize_sender_submitted, catkhize_sender_accepted, catkhize_sender_lower_failed and
- * catkhize_sender_receive_response name below: the record then spells what the machine became.
+ * except in the late cases, and with 38 on a Complete receiver, that catkhize_receiver_receive,
+ * catkhize_receiver_train, catkhize_sender_submitted, catkhize_sender_accepted,
+ * catkhize_sender_lower_failed and catkhize_sender_receive_response name below: the record then spells
+ * what the machine became. A train keeps what its segments before the refused one did.
  *
  * 'Document 01' is docs/01-scope.md. n/m is its refusal n with field m.
  */

@@ -28,6 +28,8 @@ use Rattle.tsar.specs.Writing.{Written, wrote, encodeOf}
 use Rattle.tsar.proofs.OneOctet.{p10-begin}
 use Rattle.segmentation.specs.Plan.{Planning, unsegmented, refused as planRefused, segmented, planMessage, planOf, segmentCount, segmentAt}
 use Rattle.segmentation.specs.declared.SegmentedMessage.{SegmentedMessage}
+use Rattle.segmentation.specs.declared.PlannedSegment.{PlannedSegment}
+use Rattle.segmentation.specs.declared.PlannedSegment.the-variants.{NoSegment, Segment as Planned}
 use Rattle.response.specs.declared.Status.the-variants.{Aborted}
 use Rattle.receiver.specs.declared.ReceiverState.{ReceiverState}
 use Rattle.receiver.specs.declared.ReceiverState.the-variants.{Receiving, Complete, Failed}
@@ -40,12 +42,13 @@ use Rattle.receiver.specs.Advance.{tryNewOf}
 use Rattle.delivery.specs.Demand.{trainOf}
 
 -- a case: octets that are read, with what that gives; a segment with its data, written into an output of so many octets A5, with the answer and the
--- output that are left; a message cut under a budget and Prohibited, with the data lengths of its segments and the octets of its Begin; a message
--- planned so, with the number of its segments, or the refusal; segments with their data received one after another, with each answer and state
+-- output that are left; a message cut under a budget and Prohibited, with the data lengths of its segments, once as their heads say and once as
+-- their data have, and the octets of its Begin; a message planned so, with the number of its segments, or the refusal; segments with their data
+-- received one after another, with each answer and state
 pub data Case : Type 0 where
   reads : List ℕ → Decoded → Case
   writes : Segment → List ℕ → ℕ → Written → Case
-  cuts : List ℕ → ℕ → List ℕ → List ℕ → Case
+  cuts : List ℕ → ℕ → List ℕ → List ℕ → List ℕ → Case
   makes : List ℕ → ℕ → Option ℕ → Option Refusal → Case
   receives : List (Segment × List ℕ) → List (Answer × ReceiverState) → Case
 
@@ -60,7 +63,17 @@ unfoldable pub upTo : ℕ → (ℕ → ℕ) → List ℕ
 upTo zero f = []
 upTo (suc n) f = f 0 ∷ upTo n (λ i. f (suc i))
 
--- of the segments that the plan's public call gives, with their data out of the message
+-- what the plan's public call gives for a segment: the data length that its head says
+abbrev headLength : PlannedSegment → ℕ
+headLength NoSegment = 0
+headLength (Planned x) = x .head .«segment_data_length»
+
+abbrev headLengths : Planning → List ℕ
+headLengths unsegmented = []
+headLengths (planRefused n) = []
+headLengths (segmented p) = upTo (p .count) (λ i. headLength (segmentAt p i))
+
+-- and that of its data out of the message
 abbrev dataLengths : Planning → List ℕ → List ℕ
 dataLengths unsegmented m = []
 dataLengths (planRefused n) m = []
@@ -100,7 +113,7 @@ receiveAll r store (x ∷ xs) =
 unfoldable pub given : Case → Case
 given (reads l d) = reads l (segmentOf 1 l)
 given (writes s l n w) = writes s l n (encodeOf 1 s l (replicate n 0xa5))
-given (cuts m budget ls os) = cuts m budget (dataLengths (planning m budget) m) (beginOctets (planning m budget) m)
+given (cuts m budget hs ls os) = cuts m budget (headLengths (planning m budget)) (dataLengths (planning m budget) m) (beginOctets (planning m budget) m)
 given (makes m budget n r) = makes m budget (countIn (planning m budget)) (refusalIn (planning m budget))
 given (receives xs ys) = receives xs (receiveAll (tryNewOf terms 0 .receiver) (replicate 65280 0xa5) xs)
 
@@ -179,7 +192,7 @@ cases d o₁ o₂ o₃ o₄ o₅ o₆ m n =
     ∷ writes begin-both [] 9
     (record { answer = wrote 7; output = 0x00 ∷ 0x00 ∷ 0x00 ∷ 0x10 ∷ 0x05 ∷ 0x20 ∷ 0x08 ∷ 0xa5 ∷ 0xa5 ∷ [] })
     -- P10
-    ∷ cuts (d ∷ o₁ ∷ o₂ ∷ o₃ ∷ o₄ ∷ o₅ ∷ o₆ ∷ []) 6 (1 ∷ 3 ∷ 3 ∷ []) (0x00 ∷ 0x00 ∷ 0x01 ∷ d ∷ 0x10 ∷ 0x07 ∷ [])
+    ∷ cuts (d ∷ o₁ ∷ o₂ ∷ o₃ ∷ o₄ ∷ o₅ ∷ o₆ ∷ []) 6 (1 ∷ 3 ∷ 3 ∷ []) (1 ∷ 3 ∷ 3 ∷ []) (0x00 ∷ 0x00 ∷ 0x01 ∷ d ∷ 0x10 ∷ 0x07 ∷ [])
     -- P11
     ∷ makes m 4 (some 256) none
     -- P12
@@ -200,9 +213,9 @@ abbrev pub All : List Case → Type 0
 All [] = Unit {0}
 All (c ∷ cs) = Gives c × All cs
 
-p10 : (d o₁ o₂ o₃ o₄ o₅ o₆ : ℕ) → d < 256 → Gives (cuts (d ∷ o₁ ∷ o₂ ∷ o₃ ∷ o₄ ∷ o₅ ∷ o₆ ∷ []) 6 (1 ∷ 3 ∷ 3 ∷ []) (0x00 ∷ 0x00 ∷ 0x01 ∷ d ∷ 0x10 ∷ 0x07 ∷ []))
+p10 : (d o₁ o₂ o₃ o₄ o₅ o₆ : ℕ) → d < 256 → Gives (cuts (d ∷ o₁ ∷ o₂ ∷ o₃ ∷ o₄ ∷ o₅ ∷ o₆ ∷ []) 6 (1 ∷ 3 ∷ 3 ∷ []) (1 ∷ 3 ∷ 3 ∷ []) (0x00 ∷ 0x00 ∷ 0x01 ∷ d ∷ 0x10 ∷ 0x07 ∷ []))
 unfolding given planMessage planOf segmentCount segmentAt upTo
-p10 d o₁ o₂ o₃ o₄ o₅ o₆ h = ap (cuts (d ∷ o₁ ∷ o₂ ∷ o₃ ∷ o₄ ∷ o₅ ∷ o₆ ∷ []) 6 (1 ∷ 3 ∷ 3 ∷ [])) (p10-begin d h)
+p10 d o₁ o₂ o₃ o₄ o₅ o₆ h = ap (cuts (d ∷ o₁ ∷ o₂ ∷ o₃ ∷ o₄ ∷ o₅ ∷ o₆ ∷ []) 6 (1 ∷ 3 ∷ 3 ∷ []) (1 ∷ 3 ∷ 3 ∷ [])) (p10-begin d h)
 
 -- a plan depends on the message's length alone
 planned-as : (m : List ℕ) (budget k : ℕ) (n : Option ℕ) (r : Option Refusal) → length m ≡ k

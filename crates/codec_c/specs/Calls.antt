@@ -6,7 +6,7 @@ use lib.Dec.{ltb}
 use lib.ListN.{length}
 use lib.Seq.{sets}
 use Rattle.tsar.specs.Rows.{Refusal, refusal}
-use Rattle.tsar.specs.Reading.{Told, told, untold, toldOf, segmentOf as decodeOf}
+use Rattle.tsar.specs.Reading.{Told, told, notRead, toldOf, segmentOf as decodeOf}
 use Rattle.tsar.specs.Writing.{Written, Answer, wrote, refused as unwritten, encodeOf}
 use Rattle.tsar.specs.declared.SegmentHead.{SegmentHead}
 use Rattle.image.specs.Numbers.{spell}
@@ -60,7 +60,7 @@ partImage h n = headImage h ++ spell 8 n
 
 abbrev pub decodeGives : Told → List ℕ → DecodeCall
 decodeGives (told h n) answer = decodeCall 0 (sets answer 0 (partImage h n))
-decodeGives (untold r) answer = decodeCall (codeOf r) answer
+decodeGives (notRead r) answer = decodeCall (codeOf r) answer
 
 -- an answer is 31 octets
 abbrev pub decodeTests : List ℕ → List (Bool × Refusal)

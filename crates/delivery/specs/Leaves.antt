@@ -60,7 +60,8 @@ Excepted r store (receive a out) n st = LateClosed r store a out n st ⊎ Unheld
 Excepted r store (advance m) n st = ⊥
 Excepted r store (cancel m) n st = ⊥
 
--- a refusal changes no state and no octet, with two exceptions
+-- a refusal changes no state and no octet, with two exceptions. One way only: where a call is refused, record and octets are as before, or one
+-- of the named cases holds; which of them it is, the definitions of the calls say
 abbrev pub RefusedLeaves : StepFunction → Type 0
 RefusedLeaves step =
     (r : Receiver) (store : List ℕ) (c : Call) (n : Refusal) → step r store c .answer ≡ refused n
@@ -91,12 +92,19 @@ HeldFills step =
     (r : Receiver) (store : List ℕ) (a : Arrival) (out : List ℕ) → sequence a < 256 → NewlyHeld r a (step r store (receive a out))
     → Filled store a (step r store (receive a out) .store)
 
--- failure, expiry and cancelling: the receiver is closed, and the first 65,280 octets are 0
-pub record Wiped (store : List ℕ) (st : Step) : Type 0 where
+-- failure, expiry and cancelling: the receiver was open and is closed, and the first 65,280 octets are 0
+pub record Wiped (r : Receiver) (store : List ℕ) (st : Step) : Type 0 where
+  pub was-open : taking (r .progress .state) ≡ true
   pub is-closed : taking (st .receiver .progress .state) ≡ false
   pub same-length : length (st .store) ≡ length store
   pub zero : (i : ℕ) → i < storeOctets → getD (st .store) i 0 ≡ 0
   pub past : (i : ℕ) → storeOctets ≤ i → getD (st .store) i 0 ≡ getD store i 0
+
+-- a call that closes the receiver wipes the store
+abbrev pub ClosedWipes : StepFunction → Type 0
+ClosedWipes step =
+    (r : Receiver) (store : List ℕ) (c : Call) → taking (r .progress .state) ≡ true → taking (step r store c .receiver .progress .state) ≡ false
+    → Wiped r store (step r store c)
 
 abbrev pub Fills : Receiver → List ℕ → Call → Step → Type 0
 Fills r store (receive a out) st = NewlyHeld r a st × Filled store a (st .store)
@@ -107,7 +115,7 @@ Fills r store (cancel m) st = ⊥
 abbrev pub StoreLeft : StepFunction → Type 0
 StoreLeft step =
     (r : Receiver) (store : List ℕ) (c : Call) → FitsTypes c
-    → (step r store c .store ≡ store) ⊎ (Wiped store (step r store c) ⊎ Fills r store c (step r store c))
+    → (step r store c .store ≡ store) ⊎ (Wiped r store (step r store c) ⊎ Fills r store c (step r store c))
 
 -- ---- the output
 
@@ -132,6 +140,7 @@ pub record Leaves (step : StepFunction) : Type 0 where
   pub refused-leaves : RefusedLeaves step
   pub timer-due-leaves : TimerDueLeaves step
   pub held-fills : HeldFills step
+  pub closed-wipes : ClosedWipes step
   pub store-left : StoreLeft step
   pub output-left : OutputLeft step
   pub handed-most : HandedMost step

@@ -3,7 +3,7 @@ use Prim.Native.Nat.{ℕ, zero, suc, _+_, _*_, _≤_, _<_}
 use mathlib.Core.Path.{_≡_, refl, sym, ap, _∙_, subst}
 use mathlib.Core.Logic.{_≢_, _⊎_, inl, inr, ⊎-elim}
 use mathlib.Core.List.{List, [], _∷_}
-use mathlib.Core.Bool.{Bool, true, false, _||_}
+use mathlib.Core.Bool.{Bool, true, false, not, _&&_, _||_}
 use mathlib.Core.Option.{Option, none, some}
 use native.Mathlib.Omega.{arith}
 use native.Mathlib.Decide.{ℕ-discrete}
@@ -20,20 +20,21 @@ use Rattle.words.specs.declared.Words.{Words}
 use Rattle.tsar.specs.Rows.{Refusal, firstOf, refusal, refusal-none, refusal-pass, by-rows, any-none, test}
 use Rattle.tsar.specs.Kinds.{prohibited}
 use Rattle.response.specs.declared.Status.{Status}
-use Rattle.receiver.specs.declared.ReceiverState.the-variants.{Receiving, Complete, Failed, Expired, Canceled}
+use Rattle.receiver.specs.declared.ReceiverState.{ReceiverState}
+use Rattle.receiver.specs.declared.ReceiverState.the-variants.{AwaitingBegin, Receiving, Complete, Failed, Expired, Canceled}
 use Rattle.receiver.specs.declared.EndSequence.{EndSequence}
 use Rattle.receiver.specs.declared.EndSequence.the-variants as end
 use Rattle.receiver.specs.declared.Deadline.{Deadline}
 use Rattle.receiver.specs.declared.Deadline.the-variants as deadline
 use Rattle.receiver.specs.declared.Receiver.{Receiver}
-use Rattle.receiver.specs.Record.{taking, complete, late, due, slotOctets, storeOctets, isHeld, heldLength, part, wiped, fullWith, joined, faults, impossible}
+use Rattle.receiver.specs.Record.{taking, awaiting, receiving, running, complete, late, due, slotOctets, storeOctets, isHeld, heldLength, part, wiped, fullWith, joined, faults, impossible}
 use Rattle.receiver.specs.Answers.{Answer, refused, answered, Step, refuses, lastEntry}
 use Rattle.receiver.specs.Receive.{Arrival, sequence, kind, receiveRows, slotRules, settle, lateOr, receiveAfter, receiveOf, Outcome, fails, repeats, closes, keeps, finishes}
-use Rattle.receiver.specs.Advance.{clockRows, fires, advanceAfter, advanceOf, cancelOf}
+use Rattle.receiver.specs.Advance.{clockRows, fires, advanceAfter, advanceOf, cancelRows, cancelAfter, cancelOf}
 use Rattle.delivery.specs.Calls.{Call, receive, advance, cancel, stepOf, FitsTypes}
 use Rattle.delivery.specs.Lists.{never, holding, marked-here, marked-other, part-same}
 use Rattle.delivery.specs.Rules.{Admitted, New, endWith, fills, by-rules, by-receive, by-advance, by-cancel}
-use Rattle.delivery.specs.Leaves.{lent, Unchanged, LateClosed, UnheldClosed, Excepted, RefusedLeaves, TimerDueLeaves, Filled, NewlyHeld, HeldFills, Wiped, Fills, StoreLeft, handed, OutputLeft, HandedMost, Leaves}
+use Rattle.delivery.specs.Leaves.{lent, Unchanged, LateClosed, UnheldClosed, Excepted, RefusedLeaves, TimerDueLeaves, Filled, NewlyHeld, HeldFills, Wiped, ClosedWipes, Fills, StoreLeft, handed, OutputLeft, HandedMost, Leaves}
 
 -- ---- refusals
 
@@ -161,9 +162,10 @@ module _ (store : List ℕ) (a : Arrival) (out : List ℕ) where
       }
 
 -- a store that is wiped
-wiping : (store : List ℕ) (st : Step) → st .store ≡ wiped store → taking (st .receiver .progress .state) ≡ false → Wiped store st
-wiping store st e c =
+wiping : (r : Receiver) (store : List ℕ) (st : Step) → taking (r .progress .state) ≡ true → st .store ≡ wiped store → taking (st .receiver .progress .state) ≡ false → Wiped r store st
+wiping r store st o e c =
     record {
+      was-open = o;
       is-closed = c;
       same-length = ap length e ∙ length-wiped storeOctets store;
       zero = λ i h. ap (λ (l : List ℕ). getD l i 0) e ∙ getD-wiped storeOctets i store h;
@@ -172,15 +174,15 @@ wiping store st e c =
 
 module _ (interval : ℕ) (r : Receiver) (store : List ℕ) (a : Arrival) (out : List ℕ) (seq : sequence a < 256) where
   abbrev Stored : Step → Type 0
-  Stored st = (st .store ≡ store) ⊎ (Wiped store st ⊎ Fills r store (receive a out) st)
+  Stored st = (st .store ≡ store) ⊎ (Wiped r store st ⊎ Fills r store (receive a out) st)
 
   newly : New r a → (st : Step) → st .receiver .held ≡ holding (r .held) (sequence a) → NewlyHeld r a st
   newly N st e = record { was-free = N .free; is-held = ap (λ (w : Words). marked w (sequence a)) e ∙ marked-here (r .held) (sequence a) seq }
 
   receive-stored : Stored (receiveOf interval r a store out)
   receive-stored =
-      by-receive Stored interval r a store out (λ n e. inl refl) (λ A. inr (inl (wiping store _ refl refl))) (inl refl)
-      (λ A. by-rules (λ o. Stored (settle interval o r a store out)) r a store (λ st s e. inr (inl (wiping store _ refl refl))) (λ e. inl refl) (inl refl)
+      by-receive Stored interval r a store out (λ n e. inl refl) (λ A. inr (inl (wiping r store _ (A .takes) refl refl))) (inl refl)
+      (λ A. by-rules (λ o. Stored (settle interval o r a store out)) r a store (λ st s e. inr (inl (wiping r store _ (A .takes) refl refl))) (λ e. inl refl) (inl refl)
       (λ N right f. inr (inr (newly N _ refl, filling store a out r A seq))) (λ N f. inr (inr (newly N _ refl, filling store a out r A seq))))
 
   -- a segment that was not held and is
@@ -193,17 +195,77 @@ module _ (interval : ℕ) (r : Receiver) (store : List ℕ) (a : Arrival) (out :
       (λ A. by-rules (λ o. FilledIf (settle interval o r a store out)) r a store (λ st s e p q. never _ (marked-none (sequence a)) q) (λ e p q. never _ p q) (λ p q. never _ p q)
       (λ N right f p q. filling store a out r A seq) (λ N f p q. filling store a out r A seq))
 
+-- where a deadline is due, or cancel is not refused, the receiver is open
+due-open : (s : ReceiverState) (d : Deadline) (n : ℕ) → (not (receiving s) && running d) ≡ false → due d n ≡ true → taking s ≡ true
+due-open s deadline.Off n f e = never _ refl e
+due-open AwaitingBegin (deadline.At d) n f e = refl
+due-open Receiving (deadline.At d) n f e = refl
+due-open Complete (deadline.At d) n f e = refl
+due-open (Failed x) (deadline.At d) n f e = never _ f refl
+due-open Expired (deadline.At d) n f e = never _ f refl
+due-open Canceled (deadline.At d) n f e = never _ f refl
+
+cancel-open : (s : ReceiverState) → not (awaiting s || receiving s) ≡ false → taking s ≡ true
+cancel-open AwaitingBegin f = refl
+cancel-open Receiving f = refl
+cancel-open Complete f = refl
+cancel-open (Failed x) f = never _ f refl
+cancel-open Expired f = never _ f refl
+cancel-open Canceled f = never _ f refl
+
+module _ (r : Receiver) (store : List ℕ) (m : ℕ) where
+  fires-open : refusal (clockRows r store m) ≡ none → due (r .progress .«deadline_monotonic_ms») m ≡ true → taking (r .progress .state) ≡ true
+  unfolding impossible
+  fires-open e d = due-open (r .progress .state) (r .progress .«deadline_monotonic_ms») m (any-none (faults r) (refusal-none (clockRows r store m) e 1) 6) d
+
+  abbrev Kept : Step → Type 0
+  Kept st = (st .store ≡ store) ⊎ (Wiped r store st ⊎ ⊥)
+
+  advance-stored : Kept (advanceOf r store m)
+  unfolding advanceOf
+  advance-stored = go (refusal (clockRows r store m)) refl
+    where
+      fired : refusal (clockRows r store m) ≡ none → (b p : Bool) → due (r .progress .«deadline_monotonic_ms») m ≡ b → Kept (fires b p r store m)
+      fired e false p d = inl refl
+      fired e true true d = inr (inl (wiping r store _ (fires-open e d) refl refl))
+      fired e true false d = inl refl
+
+      go : (v : Option Refusal) → refusal (clockRows r store m) ≡ v → Kept (advanceAfter v r store m)
+      go (some n) e = inl refl
+      go none e = fired e (due (r .progress .«deadline_monotonic_ms») m) (prohibited (r .progress .services .«acknowledgment_window»)) refl
+
+  cancel-stored : Kept (cancelOf r store m)
+  unfolding cancelOf
+  cancel-stored = go (refusal (cancelRows r store m)) refl
+    where
+      go : (v : Option Refusal) → refusal (cancelRows r store m) ≡ v → Kept (cancelAfter v r store m)
+      go (some n) e = inl refl
+      go none e = inr (inl (wiping r store _ (cancel-open (r .progress .state) (refusal-none (cancelRows r store m) e 3)) refl refl))
+
 store-left : (interval : ℕ) → StoreLeft (stepOf interval)
 store-left interval r store (receive a out) seq = receive-stored interval r store a out seq
-store-left interval r store (advance m) t =
-    by-advance (λ st. (st .store ≡ store) ⊎ (Wiped store st ⊎ ⊥)) r store m (λ n e. inl refl) (λ l b p e f. fired b p)
+store-left interval r store (advance m) t = advance-stored r store m
+store-left interval r store (cancel m) t = cancel-stored r store m
+
+-- a call that closes the receiver
+closed-wipes : (interval : ℕ) → ClosedWipes (stepOf interval)
+closed-wipes interval r store (receive a out) o =
+    by-receive Wipes interval r a store out (λ n e p. never _ p o) (λ A p. wiping r store _ o refl p) (λ p. never _ p o)
+    (λ A. by-rules (λ x. Wipes (settle interval x r a store out)) r a store (λ st s e p. wiping r store _ o refl p) (λ e p. never _ p o) (λ p. never _ p o) (λ N right f p. never _ p refl) (λ N f p. never _ p refl))
   where
-    fired : (b p : Bool) → (fires b p r store m .store ≡ store) ⊎ (Wiped store (fires b p r store m) ⊎ ⊥)
-    fired false p = inl refl
-    fired true true = inr (inl (wiping store _ refl refl))
-    fired true false = inl refl
-store-left interval r store (cancel m) t =
-    by-cancel (λ st. (st .store ≡ store) ⊎ (Wiped store st ⊎ ⊥)) r store m (λ n e. inl refl) (λ l. inr (inl (wiping store _ refl refl)))
+    Wipes : Step → Type 0
+    Wipes st = taking (st .receiver .progress .state) ≡ false → Wiped r store st
+closed-wipes interval r store (advance m) o = by-advance Wipes r store m (λ n e p. never _ p o) (λ l b p e f. fired b p)
+  where
+    Wipes : Step → Type 0
+    Wipes st = taking (st .receiver .progress .state) ≡ false → Wiped r store st
+
+    fired : (b p : Bool) → Wipes (fires b p r store m)
+    fired false p q = never _ q o
+    fired true true q = wiping r store _ o refl q
+    fired true false q = never _ q o
+closed-wipes interval r store (cancel m) o =
+    by-cancel (λ st. taking (st .receiver .progress .state) ≡ false → Wiped r store st) r store m (λ n e p. never _ p o) (λ l p. wiping r store _ o refl p)
 
 held-fills : (interval : ℕ) → HeldFills (stepOf interval)
 held-fills interval r store a out seq h = receive-fills interval r store a out seq (h .was-free) (h .is-held)
@@ -330,6 +392,7 @@ leaves interval =
       refused-leaves = refused-leaves interval;
       timer-due-leaves = timer-due-leaves interval;
       held-fills = held-fills interval;
+      closed-wipes = closed-wipes interval;
       store-left = store-left interval;
       output-left = output-left interval;
       handed-most = handed-most interval;

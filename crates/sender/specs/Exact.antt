@@ -1,6 +1,7 @@
 -- 40 is decided exactly. Document 01: 40, 'a record that no planner or frozen check gives for the message under any ceiling'. isGiven holds of a
 -- plan exactly where plan_message gives it, at some budget, transaction, window and version and under some ceiling, with the frozen part of no
--- segments beside it; or where the frozen check gives it, for some proposal of 256 heads, under some version and ceiling. Assumes nothing.
+-- segments beside it; or where the frozen check gives it, for some proposal of 256 heads, under some version and ceiling. The
+-- one hypothesis is that the plan's array has 256 heads, which is a fact of its type.
 use Prim.Native.Nat.{ℕ, zero, suc, _+_, _-_, _≤_, _<_}
 use mathlib.Core.Path.{_≡_, refl, sym, ap, _∙_, subst}
 use mathlib.Core.List.{List, [], _∷_, _++_}

@@ -3,10 +3,12 @@
 -- the receiver's.
 use Prim.Native.Nat.{ℕ}
 use mathlib.Core.Path.{_≡_}
-use mathlib.Core.Bool.{true}
+use mathlib.Core.Bool.{true, false}
 use mathlib.Core.Logic.{_⊎_}
 use Rattle.tsar.specs.Rows.{Refusal}
 use Rattle.tsar.specs.Kinds.{prohibited}
+use Rattle.sender.specs.declared.SenderFailure.the-variants.{SegmentInterval}
+use Rattle.sender.specs.declared.SenderState.the-variants.{Failed}
 use Rattle.sender.specs.declared.Sender.{Sender}
 use Rattle.sender.specs.Record.{isClosed, late, due, outline}
 use Rattle.sender.specs.Calls.{Step, refused, advanceOf, awaitsWord}
@@ -17,6 +19,7 @@ pub record LateStale (s : Sender) (number ticket reading : ℕ) (n : Refusal) (s
   pub is-42 : n ≡ (42, 0)
   pub was-awaited : awaitsWord (s .terms .number) (s .progress) number ticket ≡ true
   pub was-due : due (s .progress .«deadline_monotonic_ms») reading ≡ true
+  pub awaited-no-more : awaitsWord (s .terms .number) (st .sender .progress) number ticket ≡ false
   pub advanced-sender : st .sender ≡ advanceOf s reading .sender
 
 -- the late 44: under Prohibited, queued at or past the deadline. Advance has acted, at the reading that was observed
@@ -24,6 +27,7 @@ pub record LateQueued (s : Sender) (queued observed : ℕ) (n : Refusal) (st : S
   pub is-44 : n ≡ (44, 0)
   pub under-prohibited : prohibited (outline s .«acknowledgment_window») ≡ true
   pub was-due : due (s .progress .«deadline_monotonic_ms») queued ≡ true
+  pub failed : st .sender .progress .state ≡ Failed SegmentInterval
   pub advanced-sender : st .sender ≡ advanceOf s observed .sender
 
 -- receive_response's 38 after a late advance, which has closed the sender
@@ -42,6 +46,7 @@ Excepted s (accepted number ticket k) n st = LateStale s number ticket k n st
 Excepted s (lowerFailed number ticket failure k) n st = LateStale s number ticket k n st
 Excepted s (receiveResponse a) n st = LateClosed s (a .reading) n st
 
--- a refusal changes no state, with three exceptions
+-- a refusal changes no state, with three exceptions. One way only: where a call is refused, the record is as before, or one of the named cases
+-- holds; which of them it is, the definitions of the calls say
 abbrev pub RefusedLeaves : (Sender → Call → Step) → Type 0
 RefusedLeaves step = (s : Sender) (c : Call) (n : Refusal) → step s c .answer ≡ refused n → (step s c .sender ≡ s) ⊎ Excepted s c n (step s c)

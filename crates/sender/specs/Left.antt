@@ -1,26 +1,29 @@
 -- What a refused call leaves of our sender: by 63, then by the rows, then by whether advance has acted. Assumes nothing.
-use Prim.Native.Nat.{ℕ, _-_, _^_}
+use Prim.Native.Nat.{ℕ, _-_, _^_, _≤_}
 use mathlib.Core.Path.{_≡_, refl, sym, ap, _∙_}
 use mathlib.Core.List.{List, _++_}
-use mathlib.Core.Bool.{Bool, true, false, cond, not, _&&_, true≢false}
+use mathlib.Core.Bool.{Bool, true, false, cond, not, _&&_, _||_, true≢false}
 use mathlib.Core.Logic.{_⊎_, inl, inr}
 use mathlib.Core.Option.{Option, none, some}
 use native.Mathlib.Omega.{arith}
-use borrow.Author.Tests.{not-false}
+use borrow.Author.Tests.{not-false, ltb-false, le-leb, leb-true}
 use lib.Dec.{ltb}
 use Rattle.tsar.specs.Rows.{Refusal, refusal, either, orElse, refusal-append, refusal-none}
 use Rattle.tsar.specs.Kinds.{prohibited}
 use Rattle.response.specs.Responses.{responseRows}
 use Rattle.sender.specs.declared.LowerLayerFailure.{LowerLayerFailure}
-use Rattle.sender.specs.declared.SenderFailure.the-variants.{LowerLayer}
-use Rattle.sender.specs.declared.SenderState.the-variants.{Failed}
+use Rattle.sender.specs.declared.SenderFailure.the-variants.{LowerLayer, SegmentInterval}
+use Rattle.sender.specs.declared.SenderState.the-variants.{Failed, Complete}
+use Rattle.sender.specs.declared.Completion.the-variants.{ExceptionIntervalElapsed}
+use Rattle.sender.specs.declared.Deadline.{Deadline}
+use Rattle.sender.specs.declared.Deadline.the-variants as deadline
 use Rattle.sender.specs.declared.Progress.{Progress}
 use Rattle.sender.specs.declared.Outline.{Outline}
 use Rattle.sender.specs.declared.Arrival.{Arrival}
 use Rattle.sender.specs.declared.Sender.{Sender}
-use Rattle.sender.specs.Record.{isClosed, late, due, outline}
-use Rattle.sender.specs.Steps.{finish, advanced, read, fire, setsDeadline, counted, acceptedNext, cancelled}
-use Rattle.sender.specs.Calls.{Answer, refused, answered, Step, Turn, refuses, left, orTickets, onRefusal, placed, advancedTo, clockRows, advanceIn, advanceOf, cancelIn, cancelOf, offerRows, submittedRows, countRows, counting, submitting, submittedIn, submittedOf, awaitsWord, awaitedRows, wordRows, afterAdvance, acceptedIn, acceptedOf, lowerFailedIn, lowerFailedOf, arrivalRows, entryRows, responseRowsOf, reacted, lateFirst, receiveResponseIn, receiveResponseOf}
+use Rattle.sender.specs.Record.{isClosed, awaitsResponse, isExceptions, hasPending, late, due, outline}
+use Rattle.sender.specs.Steps.{finish, advanced, read, until, marking, again, prepare, fire, setsDeadline, counted, acceptedNext, cancelled}
+use Rattle.sender.specs.Calls.{Answer, refused, answered, Step, Turn, refuses, left, orTickets, onRefusal, placed, advancedTo, clockRows, advanceIn, advanceOf, cancelIn, cancelOf, offerRows, submittedRows, countRows, counting, submitting, submittedIn, submittedOf, preparedAt, awaitsWord, awaitedRows, wordRows, afterAdvance, acceptedIn, acceptedOf, lowerFailedIn, lowerFailedOf, arrivalRows, entryRows, responseRowsOf, reacted, lateFirst, receiveResponseIn, receiveResponseOf}
 use Rattle.sender.specs.CallList.{Call, advance, cancel, submitted, accepted, lowerFailed, receiveResponse, stepOf}
 use Rattle.sender.specs.Pending.{and-both}
 use Rattle.sender.specs.Leaves.{LateStale, LateQueued, LateClosed, Excepted, RefusedLeaves}
@@ -62,6 +65,24 @@ idle o p k e = ap (λ (b : Bool). read (cond b (fire (o .count) (o .«acknowledg
     neither : (b : Bool) → (b && false) ≡ false
     neither true = refl
     neither false = refl
+
+-- at a due deadline under Prohibited advance fails an open sender
+fails-then : (o : Outline) (p : Progress) (k : ℕ) → isClosed (p .state) ≡ false → due (p .«deadline_monotonic_ms») k ≡ true → prohibited (o .«acknowledgment_window») ≡ true
+    → advancedTo o p k .state ≡ Failed SegmentInterval
+unfolding advanced
+fails-then o p k c d w =
+    ap (λ (b : Bool). read (cond (not b && due (p .«deadline_monotonic_ms») k) (fire (o .count) (o .«acknowledgment_window») p k) p) k .state) c
+    ∙ ap (λ (b : Bool). read (cond b (fire (o .count) (o .«acknowledgment_window») p k) p) k .state) d
+    ∙ ap (λ (b : Bool). cond b (finish p (Failed SegmentInterval)) (cond (isExceptions (o .«acknowledgment_window») && awaitsResponse (p .state) && not (hasPending (o .count) (p .submitted) (p .retry))) (finish p (Complete ExceptionIntervalElapsed)) (prepare (o .count) (until (marking p (again (o .count) p (p .current)) (p .received)) deadline.Off) k)) .state) w
+
+-- what is due is due later
+due-later : (d : Deadline) (m n : ℕ) → due d m ≡ true → m ≤ n → due d n ≡ true
+due-later deadline.Off m n e h = e
+due-later (deadline.At d) m n e h = le-leb d n (omega (arith, leb-true d m e, h))
+
+or-right : (a b : Bool) → (a || b) ≡ false → b ≡ false
+or-right true b e = absurd (true≢false e)
+or-right false b e = e
 
 module _ (s : Sender) where
   -- what a turn that is refused leaves, with cases of its own excepted
@@ -107,6 +128,7 @@ module _ (s : Sender) where
           is-42 = cc;
           was-awaited = a;
           was-due = was (due (s .progress .«deadline_monotonic_ms») k) refl a;
+          awaited-no-more = w;
           advanced-sender = acted (42, 0) k (front-none (clockRows (outline s) (s .progress) k) (awaitedRows (s .terms .number) (s .progress) number ticket) e) f;
         })
       where
@@ -148,10 +170,12 @@ module _ (s : Sender) where
         → Left Queued (cond b (refuses (44, 0) (advancedTo (outline s) (s .progress) observed)) (counting interval (outline s .count) (outline s .«acknowledgment_window») (s .progress) queued observed))
     queued-left e true d f n r =
         let x = and-both window′ (due (s .progress .«deadline_monotonic_ms») queued) d in
+        let rows = submittedRows (s .terms .number) (outline s) (s .progress) number ticket queued observed in
         inr (record {
           is-44 = cc;
           under-prohibited = x .0;
           was-due = x .1;
+          failed = fails-then (outline s) (s .progress) observed (refusal-none rows e 2) (due-later (s .progress .«deadline_monotonic_ms») queued observed (x .1) (ltb-false observed queued (or-right (ltb queued (preparedAt (s .progress .current))) (ltb observed queued) (refusal-none rows e 4)))) (x .0);
           advanced-sender = acted (44, 0) observed (front-none (clockRows (outline s) (s .progress) observed) (offerRows (s .terms .number) (s .progress) number ticket queued observed) e) f;
         })
     queued-left e false d f n r =

@@ -1,7 +1,7 @@
 -- A train loses nothing: it ends where `Ends` says among the steps of its segments, and a caller has of it what `Kept` says, for any
 -- receiver, store, output and segments. Assumes nothing.
 use mathlib.Core.Path.{_≡_, refl, sym, ap, ap₂, subst, _∙_}
-use mathlib.Core.Bool.{Bool, true, false, cond, not}
+use mathlib.Core.Bool.{Bool, true, false, cond, not, true≢false}
 use mathlib.Core.List.{List, [], _∷_, _++_}
 use mathlib.Core.Option.{Option, none, some}
 use Prim.Native.Nat.{ℕ, zero, suc, _+_, _-_, _≤_, _<_}
@@ -55,16 +55,16 @@ module _ (peer : MobileIdentity) (protocol : HigherLayerProtocol) (reading : ℕ
       turn s steps go (refused n) e c h =
           at [] s steps n refl tt e (c n e) (ap (λ (i : ℕ). train (codeOf n) (s .receiver) (s .store) (s .output) i none none) (add-0 k))
       turn s steps go (answered (some x) m) e c h =
-          behind [] s steps (some x) m refl tt e refl (ap (λ (i : ℕ). train 0 (s .receiver) (s .store) (s .output) i (some x) m) (one-more k))
+          behind [] s steps (some x) m refl tt e (λ h. let p = sym e ∙ h .nothing in let z : _≡_ {A = ℕ} 0 1 = cc in omega arith) (ap (λ (i : ℕ). train 0 (s .receiver) (s .store) (s .output) i (some x) m) (one-more k))
       turn s steps go (answered none (some m)) e c h =
-          behind [] s steps none (some m) refl tt e refl (ap (λ (i : ℕ). train 0 (s .receiver) (s .store) (s .output) i none (some m)) (one-more k))
+          behind [] s steps none (some m) refl tt e (λ h. let p = sym e ∙ h .nothing in let z : _≡_ {A = ℕ} 0 1 = cc in omega arith) (ap (λ (i : ℕ). train 0 (s .receiver) (s .store) (s .output) i none (some m)) (one-more k))
       turn s steps go (answered none none) e c h = onward (taking (s .receiver .progress .state)) refl
         where
           onward : (b : Bool) → taking (s .receiver .progress .state) ≡ b
               → Ends k r store output (s ∷ steps)
               (cond (not b) (train 0 (s .receiver) (s .store) (s .output) (k + 1) none none) (go (train 0 (s .receiver) (s .store) (s .output) (k + 1) none none)))
           onward true q = first s (record { nothing = e; takes = q }) h
-          onward false q = behind [] s steps none none refl tt e (ap not q) (ap (λ (i : ℕ). train 0 (s .receiver) (s .store) (s .output) i none none) (one-more k))
+          onward false q = behind [] s steps none none refl tt e (λ h. true≢false (sym (h .takes) ∙ q)) (ap (λ (i : ℕ). train 0 (s .receiver) (s .store) (s .output) i none none) (one-more k))
 
 -- ---- what a caller has of it
 

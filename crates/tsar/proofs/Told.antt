@@ -11,7 +11,7 @@ use lib.Seq.{length-take-le}
 use Rattle.tsar.specs.Rows.{either}
 use Rattle.tsar.specs.Numbers.{number}
 use Rattle.tsar.specs.Layout.{WholeSegment, whole}
-use Rattle.tsar.specs.Reading.{Decoded, decoded, refused, Told, told, untold, toldOf, toldBy, decodedBy, headOfWhole, stepOf, runParams, paramsOf, withParams, beginTest, segmentAs, segmentOf}
+use Rattle.tsar.specs.Reading.{Decoded, decoded, refused, Told, told, notRead, toldOf, toldBy, decodedBy, headOfWhole, stepOf, runParams, paramsOf, withParams, beginTest, segmentAs, segmentOf}
 use Rattle.tsar.specs.declared.SegmentType.{SegmentType}
 use Rattle.tsar.specs.declared.SegmentType.the-variants as type
 use Rattle.tsar.specs.declared.SegmentHead.{SegmentHead}
@@ -82,11 +82,11 @@ within l d (refused r) g e = let z : _≡_ {A = ℕ} 0 1 = cc in absurd (omega a
 pub told-within : (v : ℕ) (l : List ℕ) (a : DecodeAnswer) (d : DecodedSegment) → toldBy a ≡ toldOf (segmentOf v l) → a ≡ answered.Decoded d → 3 + d .head .«segment_data_length» ≤ length l
 told-within v l a d e p = within l d (segmentOf v l) (segment-good v l) (ap toldBy (sym p) ∙ e)
 
--- an answer of 65,535 data octets to octets behind whose data nothing stands says something else than reading gives
+-- P2's octets: an answer that says what reading gives says 2 data octets, so not 65,535
 pub length-told : (d : DecodedSegment) → toldBy (answered.Decoded d) ≡ toldOf (segmentOf 1 (0x0b ∷ 1 ∷ 2 ∷ 0x41 ∷ 0x42 ∷ [])) → d .head .«segment_data_length» ≡ 2
 unfolding segmentOf segmentAs runParams stepOf
 length-told d e = ap length′ e
   where
     length′ : Told → ℕ
     length′ (told h n) = h .«segment_data_length»
-    length′ (untold r) = 0
+    length′ (notRead r) = 0

@@ -221,17 +221,17 @@ headOfWhole s =
 -- the head, with the number of data octets, and the number of octets unparsed; or the refusal
 pub data Told : Type 0 where
   told : SegmentHead → ℕ → Told
-  untold : Refusal → Told
+  notRead : Refusal → Told
 
 -- of what reading gives
 abbrev pub toldOf : Decoded → Told
 toldOf (decoded s n) = told (headOfWhole s) n
-toldOf (refused r) = untold r
+toldOf (refused r) = notRead r
 
 -- by decode_segment's answer
 abbrev pub toldBy : DecodeAnswer → Told
 toldBy (answered.Decoded d) = told (d .head) (d .«unparsed_octets»)
-toldBy (answered.Refused e) = untold (number e)
+toldBy (answered.Refused e) = notRead (number e)
 
 -- the answer with its data, which are a part of the octets read
 abbrev pub decodedBy : List ℕ → DecodeAnswer → Decoded

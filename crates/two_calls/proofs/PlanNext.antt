@@ -22,7 +22,7 @@ use Rattle.two_calls.specs.TwoCalls.{NeverMisspelled, PlanMade, planned,
 use Rattle.two_calls.proofs.Passing.{both, twice, not-false-is, isSome, cond-some, refusal-passes, passes, other, notDone, fine, fine-not-done, call-done}
 use Rattle.two_calls.proofs.Numbers.{finePlanning, planning-fine, frozen-fine}
 use Rattle.two_calls.proofs.SenderNumbers.{answer-other, sender-new-fine}
-use Rattle.two_calls.proofs.Behaving.{Behaves, never-misspelled, by-contract}
+use Rattle.two_calls.proofs.Behaving.{Making, Behaves, never-misspelled, unchanged-by, by-contract}
 
 spelled-some : (plan : List ℕ) → isSome (spelledBy plan) ≡ planOk plan
 unfolding spelledBy
@@ -72,9 +72,47 @@ check-done heads count joined message budget version ceiling before plan e =
     e
     (frozen-spells (k .refused) (k .plan) before (frozen-fine q))
 
-made-ok : (plan : List ℕ) → PlanMade plan 0 → planOk plan ≡ true
-made-ok plan (planned message budget transaction window version ceiling before e) = message-done message budget transaction window version ceiling before plan e
-made-ok plan (checked heads count joined message budget version ceiling before e) = check-done heads count joined message budget version ceiling before plan e
+-- ---- what is left where nothing is written
+
+planning-left : (p : Planning) (before : List ℕ) → (planningGives p before .code ≡ 0 → ⊥) → planningGives p before .plan ≡ before
+planning-left unsegmented before z = refl
+planning-left (refused x) before z = refl
+planning-left (segmented p) before z = absurd (z refl)
+
+frozen-left : (o : Option Refusal) (f : FrozenMessage) (before : List ℕ) → (frozenGives o f before .code ≡ 0 → ⊥) → frozenGives o f before .plan ≡ before
+frozen-left none f before z = absurd (z refl)
+frozen-left (some x) f before z = refl
+
+left-by : (tests : List (Bool × Refusal)) (before : List ℕ) (n : ℕ) (plan : List ℕ) (done : PlanCall) → planCall n plan ≡ unlessRefused (refusal tests) (λ k. planCall k before) done
+    → ((done .code ≡ 0 → ⊥) → done .plan ≡ before) → (n ≡ 0 → ⊥) → plan ≡ before
+left-by tests before n plan done e w z =
+    unchanged-by before (λ (k : PlanCall). k .code) (λ (k : PlanCall). k .plan) (λ k. planCall k before) done (λ k. refl) (refusal tests) (planCall n plan) e w z
+
+message-left : (message : List ℕ) (budget transaction window version ceiling : ℕ) (before : List ℕ) (n : ℕ) (plan : List ℕ)
+    → planCall n plan ≡ planMessageCall message budget transaction window version ceiling before → (n ≡ 0 → ⊥) → plan ≡ before
+unfolding planMessageCall
+message-left message budget transaction window version ceiling before n plan e =
+    let p : Planning = planMessage (length message) budget transaction (windowOf window) version ceiling in
+    left-by (messageTests window before) before n plan (planningGives p before) e (planning-left p before)
+
+check-left : (heads : List ℕ) (count : ℕ) (joined message : List ℕ) (budget version ceiling : ℕ) (before : List ℕ) (n : ℕ) (plan : List ℕ)
+    → planCall n plan ≡ tryFromFrozenCall heads count joined message budget version ceiling before → (n ≡ 0 → ⊥) → plan ≡ before
+unfolding tryFromFrozenCall
+check-left heads count joined message budget version ceiling before n plan e =
+    let k : Checked = tryFromFrozen (proposal heads count joined message budget version ceiling) in
+    left-by (frozenTests heads before) before n plan (checkGives k before) e (frozen-left (k .refused) (k .plan) before)
+
+making : (before : List ℕ) (n : ℕ) (plan : List ℕ) → PlanMade before n plan → Making planOk before n plan
+making before n plan (planned message budget transaction window version ceiling e) =
+    record {
+      made-ok = λ z. message-done message budget transaction window version ceiling before plan (ap (λ (k : ℕ). planCall k plan) (sym z) ∙ e);
+      unchanged = message-left message budget transaction window version ceiling before n plan e;
+    }
+making before n plan (checked heads count joined message budget version ceiling e) =
+    record {
+      made-ok = λ z. check-done heads count joined message budget version ceiling before plan (ap (λ (k : ℕ). planCall k plan) (sym z) ∙ e);
+      unchanged = check-left heads count joined message budget version ceiling before n plan e;
+    }
 
 -- ---- what is read
 
@@ -111,4 +149,4 @@ behaves others before n after (sender-new image kind width value protocol octet 
     (new-behaves others before n image kind width value protocol octet message version number reading image′ (m .0))
 
 pub plan-next : NeverMisspelled PlanMade PlanRead
-plan-next = never-misspelled PlanMade PlanRead planOk made-ok behaves
+plan-next = never-misspelled PlanMade PlanRead planOk making behaves

@@ -22,7 +22,7 @@ use Rattle.train_c.specs.Calls as train
 use Rattle.two_calls.specs.TwoCalls.{NeverMisspelled, ReceiverMade, receiver-new, ReceiverCall, receive, advance, cancel, walk}
 use Rattle.two_calls.proofs.Passing.{both, twice, not-false-is, isSome, cond-some, allPass, refusal-passes, passes, otherRefusal, own, notDone, fine, fine-not-done, call-done}
 use Rattle.two_calls.proofs.Numbers.{fineAnswer, answer-other, receiver-new-fine, receive-fine, advance-fine, cancel-fine, train-other}
-use Rattle.two_calls.proofs.Behaving.{Behaves, never-misspelled, by-contract}
+use Rattle.two_calls.proofs.Behaving.{Making, Behaves, never-misspelled, unchanged-by, by-contract}
 
 spelled-some : (image : List ℕ) → isSome (spelledBy image) ≡ imageOk image
 unfolding spelledBy
@@ -33,6 +33,10 @@ spelled-some image = cond-some (imageOk image) (recordOf image)
 made-spells : (image : List ℕ) (o : Option Refusal) (r : Receiver) → passes fine o ≡ true → madeCall image o r .code ≡ 0 → isSome (madeCall image o r .receiver) ≡ true
 made-spells image none r f e = refl
 made-spells image (some x) r f e = absurd (fine-not-done x f e)
+
+made-left : (image : List ℕ) (o : Option Refusal) (r : Receiver) → (madeCall image o r .code ≡ 0 → ⊥) → madeCall image o r .image ≡ image
+made-left image none r z = absurd (z refl)
+made-left image (some x) r z = refl
 
 new-done : (before : List ℕ) (kind width value protocol octet transaction version maximum reading : ℕ) (image : List ℕ)
     → call 0 image [] [] [] ≡ newCall before kind width value protocol octet transaction version maximum reading → imageOk image ≡ true
@@ -53,9 +57,28 @@ new-done before kind width value protocol octet transaction version maximum read
     ∙ ap (λ (o : Option Refusal). isSome (unlessRefused o (λ n. call n before [] [] []) (newGives before m) .receiver)) (z .0)
     ∙ made-spells before (m .refused) (m .receiver) (receiver-new-fine t reading) (z .1)
 
-made-ok : (image : List ℕ) → ReceiverMade image 0 → imageOk image ≡ true
-made-ok image (receiver-new before kind width value protocol octet transaction version maximum reading e) =
-    new-done before kind width value protocol octet transaction version maximum reading image e
+new-left : (before : List ℕ) (kind width value protocol octet transaction version maximum reading : ℕ) (n : ℕ) (image : List ℕ)
+    → call n image [] [] [] ≡ newCall before kind width value protocol octet transaction version maximum reading → (n ≡ 0 → ⊥) → image ≡ before
+unfolding newCall
+new-left before kind width value protocol octet transaction version maximum reading n image e =
+    let t : Terms =
+    record {
+      peer = record { kind = kind; width = width; value = value };
+      protocol = protocolOf protocol octet;
+      «transaction_id» = transaction;
+      version = version;
+      «maximum_message_octets» = maximum;
+    } in
+    let m : Made = tryNewOf t reading in
+    unchanged-by before (λ (c : Call). c .code) (λ (c : Call). c .image) (λ k. call k before [] [] []) (newGives before m) (λ k. refl) (refusal (newTests before protocol))
+    (call n image [] [] []) e (made-left before (m .refused) (m .receiver))
+
+making : (before : List ℕ) (n : ℕ) (image : List ℕ) → ReceiverMade before n image → Making imageOk before n image
+making before n image (receiver-new kind width value protocol octet transaction version maximum reading e) =
+    record {
+      made-ok = λ z. new-done before kind width value protocol octet transaction version maximum reading image (ap (λ (k : ℕ). call k image [] [] []) (sym z) ∙ e);
+      unchanged = new-left before kind width value protocol octet transaction version maximum reading n image e;
+    }
 
 -- ---- a step of the receiver behind the exports' tests, of which the row k is that of the record
 
@@ -137,4 +160,4 @@ behaves others before n after (walk a store′ output′ answer′ p m) =
     subst (λ (l : List ℕ). Behaves imageOk others l n after) p (train-behaves others a n after store′ output′ answer′ m)
 
 pub receiver-next : NeverMisspelled ReceiverMade ReceiverCall
-receiver-next = never-misspelled ReceiverMade ReceiverCall imageOk made-ok behaves
+receiver-next = never-misspelled ReceiverMade ReceiverCall imageOk making behaves

@@ -6,6 +6,8 @@ use mathlib.Core.Option.{Option, none, some}
 use Prim.Native.Nat.{ℕ}
 use Rattle.tsar.specs.Rows.{Refusal, refusal, refusal-none}
 use Rattle.sender.specs.declared.SenderState.{SenderState}
+use Rattle.sender.specs.declared.Terms.{Terms}
+use Rattle.sender.specs.declared.Sender.{Sender}
 use Rattle.sender.specs.declared.Offer.{Offer}
 use Rattle.sender.specs.declared.Offer.the-variants.{Nothing, Submission}
 use Rattle.sender.specs.Calls.{Answer, refused, answered, Step}
@@ -14,11 +16,11 @@ use Rattle.image_link.specs.Responses.{responseOk}
 use Rattle.plan_image.specs.Plans.{planOf}
 use Rattle.sender_image.specs.Images.{recordOf, imageOk}
 use Rattle.sender_answers.specs.Answers.{answerCode, offerCode, failureOf}
-use Rattle.sender_c.specs.Calls.{Call, call, stepCall, senderCall, Met, stateTests, advanceStep, cancelStep, submittedStep, acceptedStep, failedTests, failedStep, responseTests, arrivalOf, responseStep, newTests, termsOf, newStep, madeCall, newCall, NewMet, offerTests, offeredCall, offerCall}
+use Rattle.sender_c.specs.Calls.{Call, call, stepCall, senderCall, Met, stateTests, advanceStep, cancelStep, submittedStep, acceptedStep, failedTests, failedStep, responseTests, arrivalOf, responseStep, newTests, termsOf, newStep, madeImage, madeCall, newCall, NewMet, offerTests, offeredCall, offerCall}
 use Rattle.two_calls.specs.TwoCalls.{NeverMisspelled, SenderMade, sender-new, SenderCall, advance, cancel, submitted, accepted, lower-failed, receive-response, submission}
 use Rattle.two_calls.proofs.Passing.{both, twice, not-false-is, allPass, refusal-passes, other, otherRefusal, own, notDone, fine-not-done, call-done}
 use Rattle.two_calls.proofs.SenderNumbers.{fineAnswer, answer-other, sender-new-fine, advance-fine, cancel-fine, submitted-fine, accepted-fine, lower-failed-fine, response-fine}
-use Rattle.two_calls.proofs.Behaving.{Behaves, never-misspelled, by-contract}
+use Rattle.two_calls.proofs.Behaving.{Making, Behaves, never-misspelled, unchanged-by, by-contract}
 
 -- ---- catkhize_sender_new
 
@@ -33,11 +35,25 @@ new-done tests before image s all f m =
     let z = call-done (λ (c : Call). c .code) (λ n. call n before []) (madeCall before s) (λ n. refl) (refusal tests) (refusal-passes notDone tests all) (sym (ap (λ (c : Call). c .code) (m .0))) in
     answer-made (s .answer) (imageOk image ≡ true) f (z .1) (λ x p. m .1 (z .0) x p .whole)
 
-made-ok : (image : List ℕ) → SenderMade image 0 → imageOk image ≡ true
-made-ok image (sender-new before kind width value protocol octet plan message version number reading m) =
-    new-done (newTests before protocol plan) before image (newStep (termsOf kind width value protocol octet version number) plan message reading) refl
-    (sender-new-fine (termsOf kind width value protocol octet version number) (planOf plan) message reading)
-    m
+image-left : (a : Answer) (image : List ℕ) (s : Sender) → (answerCode a ≡ 0 → ⊥) → madeImage a image s ≡ image
+image-left (refused x) image s z = refl
+image-left (answered x) image s z = absurd (z refl)
+
+new-left : (tests : List (Bool × Refusal)) (before : List ℕ) (n : ℕ) (image : List ℕ) (s : Step) → call n image [] ≡ newCall tests before s → (n ≡ 0 → ⊥) → image ≡ before
+unfolding newCall
+new-left tests before n image s e =
+    unchanged-by before (λ (c : Call). c .code) (λ (c : Call). c .image) (λ k. call k before []) (madeCall before s) (λ k. refl) (refusal tests) (call n image []) e
+    (image-left (s .answer) before (s .sender))
+
+making : (before : List ℕ) (n : ℕ) (image : List ℕ) → SenderMade before n image → Making imageOk before n image
+making before n image (sender-new kind width value protocol octet plan message version number reading m) =
+    let tests : List (Bool × Refusal) = newTests before protocol plan in
+    let terms : Terms = termsOf kind width value protocol octet version number in
+    let s : Step = newStep terms plan message reading in
+    record {
+      made-ok = λ z. new-done tests before image s refl (sender-new-fine terms (planOf plan) message reading) (subst (λ (k : ℕ). NewMet tests before s (call k image [])) z m);
+      unchanged = new-left tests before n image s (m .0);
+    }
 
 -- ---- the calls that answer STATE
 
@@ -98,4 +114,4 @@ behaves others before n after (submission answer answer′ p e) =
     subst (λ (l : List ℕ). Behaves imageOk others before n l) (sym p) (offer-behaves others before n answer answer′ e)
 
 pub sender-next : NeverMisspelled SenderMade SenderCall
-sender-next = never-misspelled SenderMade SenderCall imageOk made-ok behaves
+sender-next = never-misspelled SenderMade SenderCall imageOk making behaves

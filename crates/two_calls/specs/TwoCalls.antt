@@ -21,28 +21,29 @@ use Rattle.sender_c.specs.Calls as sender
 abbrev pub ownNumber : ℕ → Bool
 ownNumber n = eqb n (codeOf short) || (eqb n (codeOf misspelled) || eqb n (codeOf unnamed))
 
--- `Makes l n`: a call that makes a value gave n and left l. `Call others before n l`: a call that reads a value gave n, was given the octets
--- `before` and left l in their place; `others` says whether what else it reads as a value spells one
+-- `Makes before n l`: a call that makes a value was given the octets `before`, gave n and left l in their place. `Call others before n l`: a call
+-- that reads a value did; `others` says whether what else it reads as a value spells one
 
--- octets that calls wrote: a call that makes a value was done; a call went past the exports' own tests; or such octets were given to any call,
--- also to one that was refused
-pub data Written (Makes : List ℕ → ℕ → Type 0) (Call : Bool → List ℕ → ℕ → List ℕ → Type 0) : List ℕ → Type 0 where
-  made : (l : List ℕ) → Makes l 0 → Written Makes Call l
+-- octets that calls wrote: a call that makes a value gave 0; a call that reads one went past the exports' own tests; or such octets were given to
+-- any call of either sort, whatever it gave: also to one that was refused, or to a plan_message that gave 1
+pub data Written (Makes : List ℕ → ℕ → List ℕ → Type 0) (Call : Bool → List ℕ → ℕ → List ℕ → Type 0) : List ℕ → Type 0 where
+  made : (before l : List ℕ) → Makes before 0 l → Written Makes Call l
   passed : (others : Bool) (before : List ℕ) (n : ℕ) (l : List ℕ) → ownNumber n ≡ false → Call others before n l → Written Makes Call l
   kept : (others : Bool) (before : List ℕ) (n : ℕ) (l : List ℕ) → Written Makes Call before → Call others before n l → Written Makes Call l
+  kept-making : (before : List ℕ) (n : ℕ) (l : List ℕ) → Written Makes Call before → Makes before n l → Written Makes Call l
 
 -- no call that is given such octets, and that reads nothing else that spells no value, says that octets spell no value
-abbrev pub NeverMisspelled : (List ℕ → ℕ → Type 0) → (Bool → List ℕ → ℕ → List ℕ → Type 0) → Type 0
+abbrev pub NeverMisspelled : (List ℕ → ℕ → List ℕ → Type 0) → (Bool → List ℕ → ℕ → List ℕ → Type 0) → Type 0
 NeverMisspelled Makes Call = (l : List ℕ) → Written Makes Call l → (n : ℕ) (after : List ℕ) → Call true l n after → n ≡ codeOf misspelled → ⊥
 
 -- ---- plans
 
 -- catkhize_plan_message and catkhize_try_from_frozen
-pub data PlanMade (plan : List ℕ) (n : ℕ) : Type 0 where
-  planned : (message : List ℕ) (budget transaction window version ceiling : ℕ) (before : List ℕ)
-      → planCall n plan ≡ planMessageCall message budget transaction window version ceiling before → PlanMade plan n
-  checked : (heads : List ℕ) (count : ℕ) (joined message : List ℕ) (budget version ceiling : ℕ) (before : List ℕ)
-      → planCall n plan ≡ tryFromFrozenCall heads count joined message budget version ceiling before → PlanMade plan n
+pub data PlanMade (before : List ℕ) (n : ℕ) (plan : List ℕ) : Type 0 where
+  planned : (message : List ℕ) (budget transaction window version ceiling : ℕ)
+      → planCall n plan ≡ planMessageCall message budget transaction window version ceiling before → PlanMade before n plan
+  checked : (heads : List ℕ) (count : ℕ) (joined message : List ℕ) (budget version ceiling : ℕ)
+      → planCall n plan ≡ tryFromFrozenCall heads count joined message budget version ceiling before → PlanMade before n plan
 
 -- catkhize_plan_segment and catkhize_sender_new: both only read the plan, and nothing else as a value
 pub data PlanRead (others : Bool) (before : List ℕ) (n : ℕ) (after : List ℕ) : Type 0 where
@@ -55,9 +56,10 @@ pub data PlanRead (others : Bool) (before : List ℕ) (n : ℕ) (after : List �
 -- ---- a receiver's record
 
 -- catkhize_receiver_new
-pub data ReceiverMade (image : List ℕ) (n : ℕ) : Type 0 where
-  receiver-new : (before : List ℕ) (kind width value protocol octet transaction version maximum reading : ℕ)
-      → receiver.call n image [] [] [] ≡ receiver.newCall before kind width value protocol octet transaction version maximum reading → ReceiverMade image n
+pub data ReceiverMade (before : List ℕ) (n : ℕ) (image : List ℕ) : Type 0 where
+  receiver-new : (kind width value protocol octet transaction version maximum reading : ℕ)
+      → receiver.call n image [] [] [] ≡ receiver.newCall before kind width value protocol octet transaction version maximum reading
+      → ReceiverMade before n image
 
 -- catkhize_receiver_receive, _advance, _cancel and _train; a receive reads a segment too
 pub data ReceiverCall (others : Bool) (before : List ℕ) (n : ℕ) (after : List ℕ) : Type 0 where
@@ -74,11 +76,11 @@ pub data ReceiverCall (others : Bool) (before : List ℕ) (n : ℕ) (after : Lis
 -- ---- a sender's record
 
 -- catkhize_sender_new
-pub data SenderMade (image : List ℕ) (n : ℕ) : Type 0 where
-  sender-new : (before : List ℕ) (kind width value protocol octet : ℕ) (plan message : List ℕ) (version number reading : ℕ)
+pub data SenderMade (before : List ℕ) (n : ℕ) (image : List ℕ) : Type 0 where
+  sender-new : (kind width value protocol octet : ℕ) (plan message : List ℕ) (version number reading : ℕ)
       → sender.NewMet (sender.newTests before protocol plan) before (sender.newStep (sender.termsOf kind width value protocol octet version number) plan message reading)
       (sender.call n image [])
-      → SenderMade image n
+      → SenderMade before n image
 
 -- the other entries of the sender; a receive_response reads a response too
 pub data SenderCall (others : Bool) (before : List ℕ) (n : ℕ) (after : List ℕ) : Type 0 where
