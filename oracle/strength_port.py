@@ -88,6 +88,7 @@ error('c18 a response type tested before the protocol bits', D, '''    if PROTOC
 error('c19 transaction of two bits', D, 'transaction_id: header % TYPE_PLACE,', 'transaction_id: header % 4,')
 error('c20 unparsed octets counted from the data', D, 'unparsed_octets: bytes.len() - at,', 'unparsed_octets: bytes.len() - end,')
 error('c21 length of eleven bits', D, 'const LENGTH_VALUES: u16 = 4096;', 'const LENGTH_VALUES: u16 = 2048;')
+error('c22 a decode that answers 65,535 data octets', D, 'segment_data_length: wide(length),', 'segment_data_length: wide(length) + 65_280,')
 
 # ---- planner
 P = 'segmentation/src/plan.rt'
@@ -380,6 +381,18 @@ error('s37 40 does not read heads past the count', Y, '            if !empty_fro
 error('s38 submission() in AwaitingAccept', X, 'if !state.prepared() {', 'if state.closed() {')
 error('s39 the offer of another segment', X, 'offer_of(self.terms.number, x, plan.segment(x.index))', 'offer_of(self.terms.number, x, plan.segment(0))')
 error('s40 a version below 1 taken', X, 'if version < PV1 {', 'if version + 1 < PV1 {')
+error('s41 a planned plan with junk in its frozen part taken', Y, 'is_no_frozen(beside)', 'is_no_frozen(beside) || true')
+
+# ---- trains, and what the exports give for themselves
+W, O = 'train_c/src/lib.rt', 'codec_c/src/codes.rt'
+error('t01 a train goes on past a message', W, 'Message::Octets(_) => true,', 'Message::Octets(_) => false,')
+error('t02 a train goes on past a response', W, 'Reply::Response(_) => true,', 'Reply::Response(_) => false,')
+error('t03 a train goes on past a failure', W, 'either(carries(reception), !taking(state))', 'carries(reception)')
+error('t04 a train stops after every segment', W, 'either(carries(reception), !taking(state))', 'either(carries(reception), taking(state))')
+error('t05 a train counts the segment that is refused', W, 'received: i as u64,', 'received: i as u64 + 1,', 1)
+error('e01 a buffer that is too short is 80', O, 'pub const SHORT: u32 = 65536;', 'pub const SHORT: u32 = 20480;')
+error('e02 octets that spell no value are 81', O, 'pub const MISSPELLED: u32 = 65792;', 'pub const MISSPELLED: u32 = 20736;')
+error('e03 a number that names no case is 82', O, 'pub const UNNAMED: u32 = 66048;', 'pub const UNNAMED: u32 = 20992;')
 
 
 def kit():
@@ -447,7 +460,7 @@ def apply(crates, file, old, new, nth):
 
 
 # By the first letter of an error's name: the areas that the driver runs (tools/differ).
-AREAS = {'c': 'c', 'p': 'p', 'f': 'p', 'r': 'r', 's': 's'}
+AREAS = {'c': 'c', 'p': 'p', 'f': 'p', 'r': 'r', 's': 's', 't': 't'}
 
 
 def run(root, library, areas, rounds):

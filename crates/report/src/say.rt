@@ -262,7 +262,7 @@ pub fn say(n: usize, a: u64, b: u64) {
             HeaderCapacity SegmentCount FrozenPlan JoinedLength Identity Service TransactionId ClockRegression TimeOverflow \
             UnparsedSegment BeginRequired TimerDue Closed Plan CounterOverflow StaleSubmission NotSubmitted ReceiptTime Peer \
             ResponsesProhibited UnparsedResponse UnsubmittedAcknowledgment ContradictoryReceipt Store Output ImpossibleState \
-            Tickets BufferTooShort NoValueSpelled NoCaseNamed",
+            Tickets BufferTooShort BufferSpellsNone NumberNamesNone",
             n,
         ),
         a,
