@@ -1,70 +1,28 @@
 //! Measures the decoding and rebuilding of a train of 256 segments of 255 octets: docs/src, plain Rust of the port's shape, the port, and
-//! plain copies of the same octets. All run interleaved, in one process; the table has medians.
+//! plain copies of the same octets. All run interleaved, in one process; the table has medians. Then measures repeats (see `repeats`).
 
-use bts136::l3::broadcast::ProtocolVersion;
+mod repeats;
+mod shared;
+
 use bts136::l3::relay::HigherLayerProtocol;
-use bts136::l3::tsar::{
-    AcknowledgmentWindow, Compression, CrcStatus, OptionalServices, Segment, SegmentKind,
-    decode_segment,
-};
+use bts136::l3::tsar::{AcknowledgmentWindow, decode_segment};
 use bts136::link::rach::MobileIdentity;
 use bts136::link::tsar::Receiver;
-use std::{hint::black_box, time::Instant};
-
-const SEGMENTS: usize = 256;
-const SEGMENT_OCTETS: usize = 255;
-const MESSAGE_OCTETS: usize = SEGMENTS * SEGMENT_OCTETS;
-const HEADER_OCTETS: usize = 3;
-const FILL: u8 = 0xa5;
+use catkhize::{calls, layout};
+use shared::{
+    Buffers, CONTINUE, END, FILL, HEADER_OCTETS, MESSAGE_OCTETS, ORIGIN, READING, SEGMENT_OCTETS,
+    SEGMENTS, TRANSACTION, VERSION, begin, encoded, median,
+};
+use std::{env, hint::black_box, time::Instant};
 
 /// Trains in one timing, and timings of each program: the median of the latter goes into the table.
 const TRAINS: usize = 5;
 const ROUNDS: usize = 301;
 
-mod port {
-    unsafe extern "C" {
-        pub fn catkhize_receiver_new(
-            record: *mut u8,
-            record_len: usize,
-            peer_kind: u8,
-            peer_width: u8,
-            peer_value: u64,
-            protocol: u8,
-            protocol_octet: u8,
-            transaction: u8,
-            version: u8,
-            maximum: u64,
-            reading: u64,
-        ) -> u32;
-        pub fn catkhize_receiver_train(
-            record: *mut u8,
-            record_len: usize,
-            store: *mut u8,
-            store_len: usize,
-            output: *mut u8,
-            output_len: usize,
-            peer_kind: u8,
-            peer_width: u8,
-            peer_value: u64,
-            protocol: u8,
-            protocol_octet: u8,
-            octets: *const u8,
-            octets_len: usize,
-            lengths: *const u8,
-            lengths_len: usize,
-            reading: u64,
-            answer: *mut u8,
-            answer_len: usize,
-        ) -> u32;
-    }
-}
-
-/// The octets of a receiver's record and of what a train answers; in the answer, where the number of segments received and the number of
-/// octets handed over begin.
-const RECORD_OCTETS: usize = 3930;
-const TRAIN_OCTETS: usize = 59;
+/// In the answer to a train, where the number of segments received and the number of octets handed over begin: its first and its last
+/// number.
 const RECEIVED_AT: usize = 0;
-const COUNT_AT: usize = 51;
+const COUNT_AT: usize = layout::TRAIN - size_of::<u64>();
 
 /// Encoded segments one after another, with the number of octets of each in two octets.
 struct Train {
@@ -86,34 +44,13 @@ impl Train {
         for &index in order {
             let from = SEGMENT_OCTETS * index;
             let kind = if index == 0 {
-                SegmentKind::Begin {
-                    message_length: None,
-                    services: (window != AcknowledgmentWindow::Prohibited).then_some(
-                        OptionalServices {
-                            compression: Compression::None,
-                            acknowledgment_window: window,
-                            crc_status: CrcStatus::None,
-                        },
-                    ),
-                }
+                begin(window)
             } else if index == SEGMENTS - 1 {
-                SegmentKind::End {
-                    message_length: None,
-                    crc: None,
-                }
+                END
             } else {
-                SegmentKind::Continue {
-                    message_length: None,
-                }
+                CONTINUE
             };
-            let encoded = Segment {
-                transaction_id: 0,
-                sequence_number: index as u8,
-                segment_data: message[from..from + SEGMENT_OCTETS].to_vec(),
-                kind,
-            }
-            .encode(ProtocolVersion::Pv1)
-            .expect("the codec takes these segments");
+            let encoded = encoded(index as u8, kind, &message[from..from + SEGMENT_OCTETS]);
             lengths.extend((encoded.len() as u16).to_be_bytes());
             octets.extend(encoded);
         }
@@ -134,13 +71,6 @@ impl Train {
             segment
         })
     }
-}
-
-/// What a program needs beside the train. Filled once, never cleared between runs.
-struct Buffers {
-    record: Vec<u8>,
-    store: Vec<u8>,
-    output: Vec<u8>,
 }
 
 #[derive(Clone, Copy)]
@@ -195,19 +125,25 @@ impl Program {
 #[inline(never)]
 fn original(train: &Train) -> Vec<u8> {
     let peer = MobileIdentity {
-        kind: 1,
-        width: 34,
-        value: 7,
+        kind: ORIGIN.kind,
+        width: ORIGIN.width,
+        value: ORIGIN.value,
     };
-    let protocol = HigherLayerProtocol::Segmented(1);
-    let version = ProtocolVersion::Pv1;
-    let mut receiver = Receiver::try_new(peer, protocol, 0, version, MESSAGE_OCTETS, 0)
-        .expect("these terms are served");
+    let protocol = HigherLayerProtocol::Segmented(ORIGIN.octet);
+    let mut receiver = Receiver::try_new(
+        peer,
+        protocol,
+        TRANSACTION,
+        VERSION,
+        MESSAGE_OCTETS,
+        READING,
+    )
+    .expect("these terms are served");
     let mut message = Vec::new();
     for octets in train.segments() {
-        let decoded = decode_segment(octets, version).expect("the octets spell a segment");
+        let decoded = decode_segment(octets, VERSION).expect("the octets spell a segment");
         let reception = receiver
-            .receive(peer, protocol, &decoded, 0)
+            .receive(peer, protocol, &decoded, READING)
             .expect("the segment is taken");
         if let Some(octets) = reception.message {
             message = octets;
@@ -216,62 +152,26 @@ fn original(train: &Train) -> Vec<u8> {
     message
 }
 
-fn number(answer: &[u8; TRAIN_OCTETS], at: usize) -> usize {
-    let octets = answer[at..at + 8]
+fn number(answer: &[u8; layout::TRAIN], at: usize) -> usize {
+    let octets = answer[at..at + size_of::<u64>()]
         .try_into()
         .expect("a number has eight octets");
     u64::from_be_bytes(octets) as usize
 }
 
-/// A new receiver's record.
-fn make(buffers: &mut Buffers) {
-    let record = &mut buffers.record;
-    // SAFETY: a slice, as a pointer and its length.
-    let made = unsafe {
-        port::catkhize_receiver_new(
-            record.as_mut_ptr(),
-            record.len(),
-            1,
-            34,
-            7,
-            0,
-            1,
-            0,
-            1,
-            MESSAGE_OCTETS as u64,
-            0,
-        )
-    };
-    assert_eq!(made, 0, "these terms are served");
-}
-
 /// One call on a train.
-fn take(octets: &[u8], lengths: &[u8], buffers: &mut Buffers) -> [u8; TRAIN_OCTETS] {
-    let record = &mut buffers.record;
-    let mut answer = [FILL; TRAIN_OCTETS];
-    // SAFETY: six slices that do not overlap, each as a pointer and its length.
-    let taken = unsafe {
-        port::catkhize_receiver_train(
-            record.as_mut_ptr(),
-            record.len(),
-            buffers.store.as_mut_ptr(),
-            buffers.store.len(),
-            buffers.output.as_mut_ptr(),
-            buffers.output.len(),
-            1,
-            34,
-            7,
-            0,
-            1,
-            octets.as_ptr(),
-            octets.len(),
-            lengths.as_ptr(),
-            lengths.len(),
-            0,
-            answer.as_mut_ptr(),
-            answer.len(),
-        )
-    };
+fn take(octets: &[u8], lengths: &[u8], buffers: &mut Buffers) -> [u8; layout::TRAIN] {
+    let mut answer = [FILL; layout::TRAIN];
+    let taken = calls::receiver_train(
+        &mut buffers.record,
+        &mut buffers.store,
+        &mut buffers.output,
+        ORIGIN,
+        octets,
+        lengths,
+        READING,
+        &mut answer,
+    );
     assert_eq!(taken, 0, "the train is taken");
     answer
 }
@@ -281,7 +181,7 @@ fn take(octets: &[u8], lengths: &[u8], buffers: &mut Buffers) -> [u8; TRAIN_OCTE
 /// over, and the number of calls that it took.
 #[inline(never)]
 fn port(train: &Train, buffers: &mut Buffers) -> (usize, usize) {
-    make(buffers);
+    buffers.make();
     let (mut octets, mut lengths) = (train.octets.as_slice(), train.lengths.as_slice());
     let mut calls = 0;
     loop {
@@ -301,7 +201,7 @@ fn port(train: &Train, buffers: &mut Buffers) -> (usize, usize) {
 /// The same with no segments, in as many calls as the train takes: making the record, reading it and putting it back.
 #[inline(never)]
 fn record(train: &Train, buffers: &mut Buffers) -> usize {
-    make(buffers);
+    buffers.make();
     for _ in 0..train.calls {
         take(&[], &[], buffers);
     }
@@ -338,12 +238,8 @@ fn shuffled() -> Vec<usize> {
     order
 }
 
-fn median(mut times: Vec<f64>) -> f64 {
-    times.sort_by(f64::total_cmp);
-    times[times.len() / 2]
-}
-
-fn main() {
+/// Measures the trains.
+fn trains() {
     let in_order: Vec<usize> = (0..SEGMENTS).collect();
     let shuffled = shuffled();
     let mut cases = [
@@ -369,11 +265,7 @@ fn main() {
         ),
     ]
     .map(|(name, window, order)| (name, Train::new(window, order)));
-    let mut buffers = Buffers {
-        record: vec![FILL; RECORD_OCTETS],
-        store: vec![FILL; MESSAGE_OCTETS],
-        output: vec![FILL; MESSAGE_OCTETS],
-    };
+    let mut buffers = Buffers::new();
     for (_, train) in &mut cases {
         train.calls = port(train, &mut buffers).1;
     }
@@ -421,5 +313,19 @@ fn main() {
             (port - record) / plain,
             port / original
         );
+    }
+}
+
+fn main() {
+    let words: Vec<String> = env::args().skip(1).collect();
+    match *words.iter().map(String::as_str).collect::<Vec<_>>() {
+        [] => {
+            trains();
+            println!();
+            repeats::measure();
+        }
+        ["repeats"] => repeats::measure(),
+        ["repeats", row] => repeats::run(row.parse().expect("the number of a row")),
+        _ => panic!("usage: measure [repeats [ROW]]"),
     }
 }
