@@ -175,6 +175,7 @@ error('q02 6/6 after 1', Q, '''        if map_length_refused(self.acknowledgment
         }''')
 error('q03 a support list from version 6 on', Q, 'const PV5: u8 = 5;', 'const PV5: u8 = 6;')
 error('o01 the last octet uncopied', O, '    while i < n {\n        dst[at + i]', '    while i + 1 < n {\n        dst[at + i]')
+error('o02 the last octet of a repeat uncompared', O, '    while i < n {\n        if a[i] != b[i] {', '    while i + 1 < n {\n        if a[i] != b[i] {')
 
 # ---- receiver
 C, M, R, A, G, S2 = ('receiver/src/' + f for f in ('checks.rt', 'machine.rt', 'rules.rt', 'replies.rt', 'lib.rt', 'states.rt'))
@@ -202,7 +203,7 @@ error('r11 a repeat moves no deadline', B, '''    if receiving(state) {
 error('r12 a repeat in Complete sets a deadline', B, '''    if receiving(state) {
         Deadline::At(reading + REASSEMBLY_MS)''', '''    if !crate::states::awaiting(state) {
         Deadline::At(reading + REASSEMBLY_MS)''')
-error('r13 a repeat with other data is a repeat', B, 'octets::same(part(store, from, data.len()), data)', 'octets::same(data, data)')
+error('r13 a repeat with other data is a repeat', B, 'octets::compare(part(store, SLOT_OCTETS * sequence as usize, n), data)', 'octets::compare(data, data)')
 error('r14 a Continue at 255 is held', R, 'if both(is_continue(kind), sequence == LAST_SEQUENCE) {', 'if both(is_continue(kind), false) {')
 error('r15 kinds before repeats', R, '''    if both(place.held, !place.same) {
         return Decision::Fails(Stage::Before, Status::Aborted);
@@ -268,6 +269,8 @@ error('r36 failure forgets the stated length', B, '''    let message_length = st
     Progress {
         state,''')
 error('r37 closing keeps the held lengths', M, '    let lengths = empty_lengths();\n    let slots = empty_slots();\n    Receiver {', '    let mut lengths = empty_lengths();\n    lengths[0] = 1;\n    let slots = empty_slots();\n    Receiver {')
+error('r38 a repeat compared with the octets of slot 0', B, 'part(store, SLOT_OCTETS * sequence as usize, n)', 'part(store, 0, n)')
+error('r39 the kind of a repeat uncompared', B, 'if !same_kind(old, kind) {', 'if !same_kind(kind, kind) {')
 
 # ---- sender
 K, J, U, V, X, Y = ('sender/src/' + f for f in ('checks.rt', 'marks.rt', 'steps.rt', 'turns.rt', 'lib.rt', 'plans.rt'))

@@ -1,8 +1,15 @@
-// Lent octets: copied to a place, wiped, compared. Each call is total: what lies past a slice's end is left out.
+// Lent octets: copied to a place, wiped, compared. Each call is total: a copy and a wipe leave out what would lie past a slice's end.
 ghost use mathlib.Core.Path.{_≡_};
 ghost use Prim.Native.Nat.{min, _-_};
 ghost use lib.Seq.{sets};
 ghost use Rattle.octets.specs.Octets.{wipedTo, sameOctets};
+ghost use Rattle.octets.specs.Compare.{comparedOf};
+
+// What a comparison found: whether both are the same, and how many octets of each it looked at.
+pub struct Compared {
+    pub same: bool,
+    pub looked: usize,
+}
 
 // The smaller of two numbers.
 fn smaller(a: usize, b: usize) -> usize
@@ -57,4 +64,33 @@ pub fn same(a: &[u8], b: &[u8]) -> bool
         i += 1;
     }
     true
+}
+
+// As `same`, and how many octets of each were looked at: none where the lengths differ, else those up to and with the first that
+// differs, all where none does.
+pub fn compare(a: &[u8], b: &[u8]) -> Compared
+    ensures { λ r. ⌜ r ≡ comparedOf (now (a .entry)) (now (b .entry)) ⌝ }
+{
+    let n = a.len();
+    if n != b.len() {
+        return Compared {
+            same: false,
+            looked: 0,
+        };
+    }
+    let mut i: usize = 0;
+    while i < n {
+        if a[i] != b[i] {
+            let looked = i + 1;
+            return Compared {
+                same: false,
+                looked,
+            };
+        }
+        i += 1;
+    }
+    Compared {
+        same: true,
+        looked: i,
+    }
 }

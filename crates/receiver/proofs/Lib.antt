@@ -1,4 +1,5 @@
--- Laws that the proofs of several functions use: tests (AnyOf, InOrder), 62 (HeldSums, Possible), what receive does (Settling, Holding, JoinedData), and the calls (Calling).
+-- Laws that the proofs of several functions use: tests (AnyOf, InOrder), 62 (HeldSums, Possible), what receive does (Settling, Holding, JoinedData), and the calls (Calling);
+-- and how far a repeat is compared (Repeats).
 pub mod AnyOf
 pub mod InOrder
 pub mod HeldSums
@@ -7,3 +8,4 @@ pub mod Settling
 pub mod JoinedData
 pub mod Calling
 pub mod Holding
+pub mod Repeats

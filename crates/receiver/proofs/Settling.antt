@@ -1,17 +1,19 @@
 -- What the slots decide, from the tests of the code; and that each step of receive leaves what its outcome says. Assumes nothing.
 use mathlib.Core.Path.{_≡_, refl, sym, ap, _∙_}
-use mathlib.Core.Bool.{Bool, true, false, not, _&&_}
+use mathlib.Core.Bool.{Bool, true, false, cond, not, _&&_, true≢false}
 use mathlib.Core.List.{List, [], _∷_}
 use Prim.Native.Nat.{ℕ, _+_}
 use lib.Dec.{eqb}
 use lib.ListN.{length}
+use borrow.Author.Tests.{eqb-true}
 use Rattle.octets.specs.Octets.{sameOctets}
+use Rattle.octets.specs.Compare.{comparedOf}
+use Rattle.octets.specs.declared.Compared.{Compared}
 use Rattle.tsar.specs.Rows.{firstOf}
 use Rattle.tsar.specs.Kinds.{prohibited}
 use Rattle.tsar.specs.declared.Segment.{Segment}
 use Rattle.response.specs.declared.Status.{Status}
 use Rattle.response.specs.declared.Status.the-variants as status
-use Rattle.receiver.specs.declared.Progress.{Progress}
 use Rattle.receiver.specs.declared.Receiver.{Receiver}
 use Rattle.receiver.specs.declared.Receive.{Receive}
 use Rattle.receiver.specs.declared.replies.Standing.{Standing}
@@ -24,7 +26,7 @@ use Rattle.receiver.specs.Record.{complete, isHeld, kindAt, lengthAt, pa
 use Rattle.receiver.specs.Answers.{Step}
 use Rattle.receiver.specs.Receive.{Arrival, Outcome, fails, repeats, closes, keeps, finishes, before, begun, noted, keeping, sequence, kind, endOf, sameKind, slotRules, settle, lateOr}
 use Rattle.receiver.specs.Says.{received}
-use Rattle.receiver.specs.Steps.{kindRules, rules, decided, stageSays, stagedAt, arrived, failed, tooLate, closesOf, settledOf, takenOf}
+use Rattle.receiver.specs.Steps.{kindRules, rules, repeatFound, decided, stageSays, stagedAt, arrived, failed, tooLate, closesOf, settledOf, takenOf}
 
 -- ---- the decision
 
@@ -34,7 +36,7 @@ placeOf r a store =
     record {
       held = isHeld r (sequence a);
       octets = lengthAt r (sequence a);
-      same = isHeld r (sequence a) && (sameKind (kindAt r (sequence a)) (kind a) && sameOctets (part store (sequence a) (length (a .octets))) (a .octets));
+      same = repeatFound r (sequence a) (kind a) (a .octets) store .same;
       clear = clearPast (r .held) (sequence a);
       full = fullWith (r .held) (sequence a) (endOf (r .progress .«end_sequence») (kind a) (sequence a));
     }
@@ -43,27 +45,32 @@ abbrev pub amountsOf : Receiver → Arrival → Amounts
 amountsOf r a =
     record { octets = length (a .octets); total = r .progress .«stored_octets» + length (a .octets); maximum = r .terms .«maximum_message_octets» }
 
--- the rules with the second test given
-rulesWith : Progress → Segment → Place → Amounts → Bool → List (Bool × Outcome)
-rulesWith p g x m b =
-    (x .held && not (eqb (x .octets) (m .octets)), fails before status.DuplicateSizeMismatch)
-    ∷ (b, fails before status.Aborted)
-    ∷ (x .held, repeats)
-    ∷ (complete (p .state), closes)
-    ∷ kindRules p g (x .clear) (x .full) m
+-- the second test counts only where the slot is held and as long as the segment
+behind : (h e x y : Bool) (o p : Outcome) (rest : List (Bool × Outcome)) → (h ≡ true → e ≡ true → x ≡ y)
+    → firstOf ((h && not e, o) ∷ (h && not x, p) ∷ rest) keeps ≡ firstOf ((h && not e, o) ∷ (h && not y, p) ∷ rest) keeps
+behind true true x y o p rest q = ap (λ (b : Bool). firstOf ((not b, p) ∷ rest) keeps) (q refl refl)
+behind true false x y o p rest q = refl
+behind false e x y o p rest q = refl
 
--- nothing is compared where nothing is held
-compared : (h x : Bool) → (h && not (h && x)) ≡ (h && not x)
-compared true x = refl
-compared false x = refl
+-- what comparing found, where the slot is held
+found-held : (h k : Bool) (c : Compared) → h ≡ true → cond (h && k) c (record { same = false; looked = 0 }) .same ≡ (k && c .same)
+found-held true true c e = refl
+found-held true false c e = refl
+found-held false k c e = absurd (true≢false (sym e))
 
 pub outcome-is : (r : Receiver) (a : Arrival) (store : List ℕ) (x : Place) (d : Decision)
     → x ≡ placeOf r a store → decided d ≡ firstOf (rules (r .progress) (a .segment) x (amountsOf r a)) keeps → decided d ≡ firstOf (slotRules r a store) keeps
-unfolding rulesWith
 outcome-is r a store x d e h =
+    let s = sequence a in
+    let k = sameKind (kindAt r s) (kind a) in
+    let n = length (a .octets) in
     h ∙ ap (λ (y : Place). firstOf (rules (r .progress) (a .segment) y (amountsOf r a)) keeps) e
-    ∙ ap (λ (b : Bool). firstOf (rulesWith (r .progress) (a .segment) (placeOf r a store) (amountsOf r a) b) keeps)
-    (compared (isHeld r (sequence a)) (sameKind (kindAt r (sequence a)) (kind a) && sameOctets (part store (sequence a) (length (a .octets))) (a .octets)))
+    ∙ behind (isHeld r s) (eqb (lengthAt r s) n) (placeOf r a store .same) (k && sameOctets (part store s n) (a .octets))
+    (fails before status.DuplicateSizeMismatch) (fails before status.Aborted)
+    ((isHeld r s, repeats) ∷ (complete (r .progress .state), closes) ∷ kindRules (r .progress) (a .segment) (placeOf r a store .clear) (placeOf r a store .full) (amountsOf r a))
+    (λ held same-length.
+    found-held (isHeld r s) k (comparedOf (part store s (lengthAt r s)) (a .octets)) held
+    ∙ ap (λ (m : ℕ). k && sameOctets (part store s m) (a .octets)) (eqb-true (lengthAt r s) n same-length))
 
 -- ---- an arrival's peer, protocol and unparsed octets no longer count
 

@@ -1,4 +1,5 @@
--- The definitions of Record, Answers, Receive and Advance over the fields that they read, for the steps of the code, which take no whole record.
+-- The definitions of Record, Answers, Receive and Advance over the fields that they read, for the steps of the code, which take no whole record;
+-- and what comparing a segment with its slot finds (document 02, 2026-03).
 use Prim.Native.Nat.{ℕ, suc, _+_, _-_, _*_, _^_, _≤_, _<_, min}
 use mathlib.Core.Path.{_≡_}
 use mathlib.Core.List.{List, [], _∷_, _++_}
@@ -6,6 +7,8 @@ use mathlib.Core.Bool.{Bool, true, false, cond, not, _&&_, _||_}
 use mathlib.Core.Option.{Option, none, some}
 use lib.Dec.{eqb, leb, ltb}
 use lib.ListN.{getD, set}
+use Rattle.octets.specs.Compare.{comparedOf}
+use Rattle.octets.specs.declared.Compared.{Compared}
 use Rattle.words.specs.Marks.{bit, marked, noMarks, wordsOf, allBelow}
 use Rattle.words.specs.declared.Words.{Words}
 use Rattle.link.specs.Peer.{sameIdentity, sameProtocol}
@@ -48,11 +51,11 @@ use Rattle.receiver.specs.declared.turns.Slots.{Slots}
 use Rattle.receiver.specs.declared.turns.Slots.the-variants as after
 use Rattle.receiver.specs.declared.turns.Turn.{Turn}
 use Rattle.receiver.specs.Numbers.{receiveNumber}
-use Rattle.receiver.specs.Record.{taking, awaiting, receiving, complete, receivingOrComplete, statesBelow, statesAbove, clash, pastEnd, otherEnd, running, storeOctets, heldLength, sumTo, kindAt, lengthAt, emptySlots, emptyLengths, gap, late, wiped, with, read}
+use Rattle.receiver.specs.Record.{taking, awaiting, receiving, complete, receivingOrComplete, statesBelow, statesAbove, clash, pastEnd, otherEnd, running, storeOctets, heldLength, sumTo, isHeld, kindAt, lengthAt, part, emptySlots, emptyLengths, gap, late, wiped, with, read}
 use Rattle.receiver.specs.Answers.{Step, refused, answered, refuses, lastEntry, acknowledges, periodic, listedIn}
 use Rattle.receiver.specs.Says.{received}
 use Rattle.receiver.specs.Receive as receive
-use Rattle.receiver.specs.Receive.{Arrival, Outcome, fails, repeats, closes, keeps, finishes, before, begun, noted, keeping, servicesOf, statedOf, endOf, slotRules, settle, lateOr}
+use Rattle.receiver.specs.Receive.{Arrival, Outcome, fails, repeats, closes, keeps, finishes, before, begun, noted, keeping, servicesOf, statedOf, endOf, sameKind, slotRules, settle, lateOr}
 
 -- ---- responses and closing
 
@@ -234,6 +237,12 @@ rules p g x m =
     ∷ (complete (p .state), closes)
     ∷ kindRules p g (x .clear) (x .full) m
 
+-- what comparing a segment of sequence s and kind k with its own slot finds: nothing is looked at where the slot isn't held or holds another
+-- kind; else the slot's own octets are compared with the segment's, which begins only where there are as many
+abbrev pub repeatFound : Receiver → ℕ → SegmentKind → List ℕ → List ℕ → Compared
+repeatFound r s k octets store =
+    cond (isHeld r s && sameKind (kindAt r s) k) (comparedOf (part store s (lengthAt r s)) octets) (record { same = false; looked = 0 })
+
 -- the standing at the stage at which a reception fails
 abbrev pub stagedAt : Stage → Progress → Words → Segment → Standing
 stagedAt stage.Before p held g = standingOf p held
@@ -318,10 +327,14 @@ turned r g n x = record { answer = x .answer; receiver = changed (x .slots) r g 
 abbrev pub Leaves : Receiver → Turn → List ℕ → List ℕ → Step → Type 0
 Leaves r x store out s = (g : Segment) (n : ℕ) → received (turned r g n x) store out ≡ s
 
+-- what slot s records
+pub record Recorded (r : Receiver) (s : ℕ) (k : SegmentKind) (n : ℕ) : Type 0 where
+  pub kind-is : k ≡ kindAt r s
+  pub length-is : n ≡ lengthAt r s
+
 -- what the slot of a segment records
-pub record Found (r : Receiver) (g : Segment) (k : SegmentKind) (n : ℕ) : Type 0 where
-  pub kind-is : k ≡ kindAt r (g .«sequence_number»)
-  pub length-is : n ≡ lengthAt r (g .«sequence_number»)
+abbrev pub Found : Receiver → Segment → SegmentKind → ℕ → Type 0
+Found r g k n = Recorded r (g .«sequence_number») k n
 
 -- the octets stored fit sixteen bits, and a deadline can be set
 pub record Fits (r : Receiver) (n reading : ℕ) : Type 0 where

@@ -34,22 +34,22 @@ use crate::states::late;
 use crate::states::receiving;
 use crate::states::smaller;
 use crate::states::wide;
+use octets::Compared;
 use response::Status;
 use tsar::Segment;
 use tsar::SegmentKind;
 use words::Words;
 ghost use mathlib.Core.Path.{_≡_};
-ghost use mathlib.Core.Bool.{cond, _&&_};
+ghost use mathlib.Core.Bool.{cond};
 ghost use mathlib.Core.List.{[]};
 ghost use Prim.Native.Nat.{suc, _+_, _<_};
 ghost use lib.ListN.{length, take, drop};
 ghost use lib.Seq.{sets};
-ghost use Rattle.octets.specs.Octets.{sameOctets};
 ghost use Rattle.tsar.specs.Kinds.{prohibited as prohibitedOf};
 ghost use Rattle.receiver.specs.Record.{joined, receiving as receivingOf, complete as completeOf, timed as timedOf};
-ghost use Rattle.receiver.specs.Receive.{repeats, keeps, finishes, sameKind, settle as settleOf};
+ghost use Rattle.receiver.specs.Receive.{repeats, keeps, finishes, settle as settleOf};
 ghost use Rattle.receiver.specs.Says.{received};
-ghost use Rattle.receiver.specs.Steps.{arrived, closedProgress, failed, tooLate, keptProgress, turned, Leaves, Fits, Found, settledOf, closesOf, takenOf};
+ghost use Rattle.receiver.specs.Steps.{arrived, closedProgress, failed, tooLate, keptProgress, turned, repeatFound, Leaves, Fits, Recorded, Found, settledOf, closesOf, takenOf};
 
 // What becomes of the slots: they stay, the segment's takes its slot, or all are emptied.
 pub enum Slots {
@@ -102,26 +102,6 @@ fn part(store: &[u8], from: usize, n: usize) -> &[u8]
     let start = smaller(from, store.len());
     let until = start + smaller(n, store.len() - start);
     &store[start..until]
-}
-
-// The slot holds this very segment: nothing is compared where it isn't held.
-fn same_slot(
-    held: bool,
-    old: SegmentKind,
-    kind: SegmentKind,
-    store: &[u8],
-    from: usize,
-    data: &[u8],
-) -> bool
-    ensures { λ r. ⌜ r ≡ (held && (sameKind old kind && sameOctets (take (length (now («data» .entry))) (drop from (now (store .entry)))) (now («data» .entry)))) ⌝ }
-{
-    if !held {
-        return false;
-    }
-    if !same_kind(old, kind) {
-        return false;
-    }
-    octets::same(part(store, from, data.len()), data)
 }
 
 // The data of slots 0 to last, in order, to the front of the output; their number.
@@ -369,6 +349,36 @@ impl Receiver {
         }
     }
 
+    // Whether the slot of a sequence number holds this very segment, and how many octets were looked at: none where the slot isn't held or holds
+    // another kind; else the slot's own n are compared with the data. `old` and `n` are what the slot records. The number goes into no answer.
+    fn same_slot(
+        self,
+        sequence: u8,
+        old: SegmentKind,
+        n: usize,
+        kind: SegmentKind,
+        data: &[u8],
+        store: &[u8],
+    ) -> Compared
+        requires { ⌜ Recorded self sequence old n ⌝ }
+        ensures { λ r. ⌜ r ≡ repeatFound self sequence kind (now («data» .entry)) (now (store .entry)) ⌝ }
+    {
+        let marks = self.held;
+        if !marks.has(sequence) {
+            return Compared {
+                same: false,
+                looked: 0,
+            };
+        }
+        if !same_kind(old, kind) {
+            return Compared {
+                same: false,
+                looked: 0,
+            };
+        }
+        octets::compare(part(store, SLOT_OCTETS * sequence as usize, n), data)
+    }
+
     // What the slots decide, and what is done: `old` and `octets` are what the segment's own slot records.
     fn settle(
         self,
@@ -391,10 +401,11 @@ impl Receiver {
         let has = held.has(sequence);
         let old_end = progress.end_sequence;
         let end = end_of(old_end, kind, sequence);
+        let found = self.same_slot(sequence, old, octets, kind, data, store);
         let place = Place {
             held: has,
             octets,
-            same: same_slot(has, old, kind, store, SLOT_OCTETS * sequence as usize, data),
+            same: found.same,
             clear: held.none_past(sequence),
             full: full_with(held, sequence, end),
         };

@@ -1,8 +1,8 @@
 -- `Receiver::settle` meets its contract: what the code finds out about the place is what the rules ask, and each outcome has its step. Assumes nothing.
-use Rattle.octets.specs.Octets.{sameOctets}
+use Rattle.octets.specs.declared.Compared.{Compared}
 use Rattle.receiver.proofs.Settling.{outcome-is, placeOf, settled-closes, settled-fails, settled-finishes, settled-keeps, settled-repeats}
-use Rattle.receiver.specs.Receive.{Arrival, keeps, sameKind, slotRules}
-use Rattle.receiver.specs.Record.{fullWith, part}
+use Rattle.receiver.specs.Receive.{Arrival, keeps, slotRules}
+use Rattle.receiver.specs.Record.{fullWith}
 use Rattle.receiver.specs.Steps.{arrived, decided, turned}
 use Rattle.receiver.specs.declared.Receive.{Receive}
 use Rattle.receiver.specs.declared.rules.Place.{Place}
@@ -10,7 +10,6 @@ use Rattle.receiver.specs.declared.turns.Turn.{Turn}
 use Rattle.tsar.specs.Rows.{firstOf}
 use denote.Ref.{now}
 use lib.ListN.{length}
-use mathlib.Core.Bool.{_&&_}
 use mathlib.Core.Path.{_∙_, _≡_, ap, sym}
 use borrow.Author.Needs.{needs}
 use Rattle.receiver.proofs.Receiver.settle.Statement.{statement}
@@ -26,18 +25,17 @@ leaving c turn = let x = c .args in turned (x .self) (x .segment) (length (now (
 
 -- what the code found out
 abbrev found : (c : tie.After-decide) → Place
-found c = record { held = c .before .before .before .before .before .before .before .has .result; octets = c .before .before .before .before .before .before .before .before .before .before .before .before .before .before .args .octets; same = c .before .before .before .before .same-slot .result; clear = c .before .before .before .none-past .result; full = c .before .before .full-with .result }
+found c = record { held = c .before .before .before .before .before .before .before .has .result; octets = c .before .before .before .before .before .before .before .before .before .before .before .before .before .before .args .octets; same = c .before .before .before .before .same-slot .result .same; clear = c .before .before .before .none-past .result; full = c .before .before .full-with .result }
 
 found-said : (c : tie.After-decide) → found c ≡ placeOf (c .before .before .before .before .before .before .before .before .before .before .before .before .before .before .args .self) (arrival (c .before .before .before .before .before .before .before .before .before .before .before .before .before .before)) (now (c .before .before .before .before .before .before .before .before .before .before .before .before .before .before .args .store))
 found-said c =
     let x = c .before .before .before .before .before .before .before .before .before .before .before .before .before .before .args in
     let slot = c .before .before .before .before .before .before .before .before .before .before .before .before .before .before .pre .1 in
     let s = x .segment .«sequence_number» in
-    let same-data = sameOctets (part (now (x .store)) s (length (now (x .«data»)))) (now (x .«data»)) in
     λ i. record {
       held = c .before .before .before .before .before .before .before .has .ensures i;
       octets = slot .length-is i;
-      same = (c .before .before .before .before .same-slot .ensures ∙ (λ j. c .before .before .before .before .before .before .before .has .ensures j && (sameKind (slot .kind-is j) (x .segment .kind) && same-data))) i;
+      same = ap (λ (f : Compared). f .same) (c .before .before .before .before .same-slot .ensures) i;
       clear = c .before .before .before .none-past .ensures i;
       full = (c .before .before .full-with .ensures ∙ ap (fullWith (x .self .held) s) (c .before .before .before .before .before .before .end-of .ensures)) i;
     }
@@ -50,12 +48,6 @@ has-requires c κs = search needs
 
 end-of-requires : tie.Need-end-of-requires
 end-of-requires c κs = search needs
-
-cast-same-slot : tie.Need-cast-same-slot
-cast-same-slot c = search needs
-
-mul-same-slot : tie.Need-mul-same-slot
-mul-same-slot c = search needs
 
 same-slot-requires : tie.Need-same-slot-requires
 same-slot-requires c κs = search needs
@@ -85,7 +77,7 @@ enum-told : tie.Need-enum-told
 enum-told c = search needs
 
 repeat-requires : tie.Need-repeat-requires
-repeat-requires c κs = search needs
+repeat-requires c κs = c .before .before .before .before .before .before .before .before .before .before .before .before .before .before .before .before .pre .0 .early
 
 enum-told-2 : tie.Need-enum-told-2
 enum-told-2 c = search needs
@@ -154,8 +146,6 @@ settle-spec =
     (tie.spec
     has-requires
     end-of-requires
-    cast-same-slot
-    mul-same-slot
     same-slot-requires
     none-past-requires
     full-with-requires

@@ -1,0 +1,2 @@
+-- Laws of the definitions: how far a comparison looks (Looked).
+pub mod Looked
