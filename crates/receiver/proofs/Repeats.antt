@@ -18,12 +18,8 @@ use Rattle.tsar.specs.Rows.{refusal, refusal-none}
 use Rattle.receiver.specs.declared.Receiver.{Receiver}
 use Rattle.receiver.specs.Record.{isHeld, kindAt, lengthAt, part, slotOctets, storeOctets}
 use Rattle.receiver.specs.Receive.{Arrival, sequence, kind, sameKind, receiveRows}
-use Rattle.receiver.specs.Steps.{repeatFound}
+use Rattle.receiver.specs.Steps.{notCompared, repeatFound}
 use Rattle.receiver.proofs.Possible.{held-short}
-
--- not the same, and nothing looked at
-abbrev nothing : Compared
-nothing = record { same = false; looked = 0 }
 
 -- the octets that the segment's slot holds
 abbrev own : Receiver → Arrival → List ℕ → List ℕ
@@ -34,7 +30,7 @@ abbrev found : Receiver → Arrival → List ℕ → Compared
 found r a store = repeatFound r (sequence a) (kind a) (a .octets) store
 
 -- a slot that isn't held, or holds another kind: nothing is looked at
-pub not-compared : (r : Receiver) (a : Arrival) (store : List ℕ) → (isHeld r (sequence a) && sameKind (kindAt r (sequence a)) (kind a)) ≡ false → found r a store ≡ nothing
+pub not-compared : (r : Receiver) (a : Arrival) (store : List ℕ) → (isHeld r (sequence a) && sameKind (kindAt r (sequence a)) (kind a)) ≡ false → found r a store ≡ notCompared
 not-compared r a store e = rw e refl
 
 -- this very segment: all of it
@@ -58,10 +54,10 @@ module _ (interval : ℕ) (r : Receiver) (a : Arrival) (store out : List ℕ) (o
       length-take-le (lengthAt r (sequence a)) (drop (slotOctets * sequence a) store) (rw length-drop (omega (arith, short, room)))
 
   -- a repeat of another length: nothing is looked at
-  pub other-length : (lengthAt r (sequence a) ≡ length (a .octets) → ⊥) → found r a store ≡ nothing
+  pub other-length : (lengthAt r (sequence a) ≡ length (a .octets) → ⊥) → found r a store ≡ notCompared
   other-length n = go (isHeld r (sequence a)) refl (sameKind (kindAt r (sequence a)) (kind a))
     where
-      go : (t : Bool) → isHeld r (sequence a) ≡ t → (k : Bool) → cond (t && k) (comparedOf (own r a store) (a .octets)) nothing ≡ nothing
+      go : (t : Bool) → isHeld r (sequence a) ≡ t → (k : Bool) → cond (t && k) (comparedOf (own r a store) (a .octets)) notCompared ≡ notCompared
       go false e k = refl
       go true e false = refl
       go true e true =

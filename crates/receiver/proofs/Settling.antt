@@ -26,7 +26,7 @@ use Rattle.receiver.specs.Record.{complete, isHeld, kindAt, lengthAt, pa
 use Rattle.receiver.specs.Answers.{Step}
 use Rattle.receiver.specs.Receive.{Arrival, Outcome, fails, repeats, closes, keeps, finishes, before, begun, noted, keeping, sequence, kind, endOf, sameKind, slotRules, settle, lateOr}
 use Rattle.receiver.specs.Says.{received}
-use Rattle.receiver.specs.Steps.{kindRules, rules, repeatFound, decided, stageSays, stagedAt, arrived, failed, tooLate, closesOf, settledOf, takenOf}
+use Rattle.receiver.specs.Steps.{kindRules, rules, notCompared, repeatFound, decided, stageSays, stagedAt, arrived, failed, tooLate, closesOf, settledOf, takenOf}
 
 -- ---- the decision
 
@@ -53,7 +53,7 @@ behind true false x y o p rest q = refl
 behind false e x y o p rest q = refl
 
 -- what comparing found, where the slot is held
-found-held : (h k : Bool) (c : Compared) → h ≡ true → cond (h && k) c (record { same = false; looked = 0 }) .same ≡ (k && c .same)
+found-held : (h k : Bool) (c : Compared) → h ≡ true → cond (h && k) c notCompared .same ≡ (k && c .same)
 found-held true true c e = refl
 found-held true false c e = refl
 found-held false k c e = absurd (true≢false (sym e))

@@ -237,11 +237,15 @@ rules p g x m =
     ∷ (complete (p .state), closes)
     ∷ kindRules p g (x .clear) (x .full) m
 
+-- what is found where no octet is looked at
+abbrev pub notCompared : Compared
+notCompared = record { same = false; looked = 0 }
+
 -- what comparing a segment of sequence s and kind k with its own slot finds: nothing is looked at where the slot isn't held or holds another
 -- kind; else the slot's own octets are compared with the segment's, which begins only where there are as many
 abbrev pub repeatFound : Receiver → ℕ → SegmentKind → List ℕ → List ℕ → Compared
 repeatFound r s k octets store =
-    cond (isHeld r s && sameKind (kindAt r s) k) (comparedOf (part store s (lengthAt r s)) octets) (record { same = false; looked = 0 })
+    cond (isHeld r s && sameKind (kindAt r s) k) (comparedOf (part store s (lengthAt r s)) octets) notCompared
 
 -- the standing at the stage at which a reception fails
 abbrev pub stagedAt : Stage → Progress → Words → Segment → Standing
