@@ -114,15 +114,19 @@ extern "C" {
 #define CATKHIZE_DECODED_OCTETS 31u
 #define CATKHIZE_PART_OCTETS 31u
 #define CATKHIZE_RESPONSE_OCTETS 41u
-#define CATKHIZE_RECEPTION_OCTETS 51u
-#define CATKHIZE_REPLY_OCTETS 42u
+#define CATKHIZE_RECEPTION_OCTETS 55u
+#define CATKHIZE_REPLY_OCTETS 46u
 #define CATKHIZE_WRITTEN_OCTETS 8u
 #define CATKHIZE_RECEIVER_OCTETS 3930u
 #define CATKHIZE_PLAN_OCTETS 5958u
 #define CATKHIZE_SENDER_OCTETS 6130u
 #define CATKHIZE_STATE_OCTETS 4u
 #define CATKHIZE_SUBMISSION_OCTETS 48u
-#define CATKHIZE_TRAIN_OCTETS 59u
+#define CATKHIZE_TRAIN_OCTETS 63u
+/* REPLY, RECEPTION and TRAIN had 42, 51 and 59 octets before the figures of missing entries came into them.
+ * An answer of that size gives CATKHIZE_REFUSED_BUFFER_TOO_SHORT now. In a longer one the message stands four
+ * octets further on: a program that is linked anew and not compiled anew reads the figures there, and misses
+ * the message. Records and plans are as before. */
 
 /* The first octet of a receiver's, a plan's and a sender's buffer. */
 #define CATKHIZE_LAYOUT_VERSION 1u
@@ -175,7 +179,8 @@ extern "C" {
 /* PART: HEAD, then where its data begin in the message. */
 #define CATKHIZE_PART_AT_OFFSET 23u /* 64 bits */
 
-/* RESPONSE. Entry i of the map is bit i % 64 of word i / 64; bits past the entries are ignored when read. */
+/* RESPONSE. Entry i of the map is bit i % 64 of word i / 64; bits past the entries are ignored when read. It
+ * has no figures of missing entries: they are neither sent nor given to a sender. */
 #define CATKHIZE_RESPONSE_AT_TRANSACTION 0u
 #define CATKHIZE_RESPONSE_AT_STATUS 1u
 #define CATKHIZE_RESPONSE_AT_ENTRIES 2u /* 16 bits */
@@ -198,15 +203,27 @@ extern "C" {
 #define CATKHIZE_STATUS_CRC_ERROR 12u
 #define CATKHIZE_STATUS_MULTIPLE_SERVICES_UNSUPPORTED 13u
 
-/* REPLY: a response that is to be sent, if any. */
+/* REPLY: a response that is to be sent, if any, and beside it the figures of its own map: how many of its
+ * entries are missing, and the first missing one, CATKHIZE_NONE_MISSING if none is. All octets are 0 where
+ * there is no response; the 0 at FIRST_MISSING then names no entry. A map's entries go to the end where it is
+ * known, and else to the highest segment held (in a timeout answer one further): that none of them is missing
+ * does not say that the message is whole, status Received does. */
 #define CATKHIZE_REPLY_AT_PRESENT 0u
 #define CATKHIZE_REPLY_AT_RESPONSE 1u
+#define CATKHIZE_REPLY_AT_MISSING 42u /* 16 bits */
+#define CATKHIZE_REPLY_AT_FIRST_MISSING 44u /* 16 bits */
+
+#define CATKHIZE_NONE_MISSING 256u
+
 /* RECEPTION: REPLY, then the message that is handed over, if any: the first octets of output. */
-#define CATKHIZE_RECEPTION_AT_PRESENT 0u
-#define CATKHIZE_RECEPTION_AT_RESPONSE 1u
-#define CATKHIZE_RECEPTION_AT_HANDED_OVER 42u
-#define CATKHIZE_RECEPTION_AT_MESSAGE_OCTETS 43u /* 64 bits */
-/* TRAIN: how many segments were received, then the RECEPTION of the last, all 0 beside a refusal. */
+#define CATKHIZE_RECEPTION_AT_PRESENT CATKHIZE_REPLY_AT_PRESENT
+#define CATKHIZE_RECEPTION_AT_RESPONSE CATKHIZE_REPLY_AT_RESPONSE
+#define CATKHIZE_RECEPTION_AT_MISSING CATKHIZE_REPLY_AT_MISSING
+#define CATKHIZE_RECEPTION_AT_FIRST_MISSING CATKHIZE_REPLY_AT_FIRST_MISSING
+#define CATKHIZE_RECEPTION_AT_HANDED_OVER CATKHIZE_REPLY_OCTETS
+#define CATKHIZE_RECEPTION_AT_MESSAGE_OCTETS (CATKHIZE_RECEPTION_AT_HANDED_OVER + 1u) /* 64 bits */
+/* TRAIN: how many segments were received, then the RECEPTION of the last, with the figures beside its
+ * response; that RECEPTION is all 0 beside a refusal. */
 #define CATKHIZE_TRAIN_AT_RECEIVED 0u /* 64 bits */
 #define CATKHIZE_TRAIN_AT_RECEPTION 8u
 
@@ -460,7 +477,8 @@ uint32_t catkhize_receiver_new(
  * left unparsed. The output has at least as many octets as the smaller of the record's maximum and
  * CATKHIZE_STORE_OCTETS. A failed reception is no refusal: the record's state has its status. Refusal 38
  * changes the record in two cases: under Prohibited past the deadline the receiver expires (and the store
- * becomes 0), and a Complete receiver takes the reading of a segment that it does not hold. */
+ * becomes 0), and a Complete receiver takes the reading of a segment that it does not hold. A response, also
+ * that of a failed reception, has the figures of its map beside it (REPLY); a refused call writes no answer. */
 uint32_t catkhize_receiver_receive(
     uint8_t *record, size_t record_octets, /* RECEIVER */
     uint8_t *store, size_t store_octets,
@@ -473,7 +491,9 @@ uint32_t catkhize_receiver_receive(
     uint64_t reading,
     uint8_t *answer, size_t answer_octets); /* RECEPTION */
 
-/* Lets time pass. A response in the answer asks the peer for what is missing. */
+/* Lets time pass. A response in the answer asks the peer for what is missing, and has the figures of its map
+ * beside it (REPLY). Where the end is not known, the map has one more entry, past the highest sequence number
+ * held; that entry is missing and is counted. Where 255 is held there is none. */
 uint32_t catkhize_receiver_advance(
     uint8_t *record, size_t record_octets, /* RECEIVER */
     uint8_t *store, size_t store_octets,
@@ -490,7 +510,8 @@ uint32_t catkhize_receiver_cancel(
  * each). Each is decoded under the record's version and received, all with the same reading. It stops:
  *  - behind a segment whose reception carries a response or a message, or leaves a receiver that takes
  *    no segments (a reception that fails under Prohibited answers nothing: read the state). It gives
- *    CATKHIZE_DONE, and the answer has that reception; those before it carried nothing.
+ *    CATKHIZE_DONE, and the answer has that reception, with the figures beside its response as in
+ *    catkhize_receiver_receive; those before it carried nothing.
  *  - at the first that is refused, and gives that refusal. The answer is then written too, with an empty
  *    reception, and the record spells what the segments before it, and a refusal that changes the record,
  *    made of it.

@@ -31,7 +31,7 @@ static uint8_t plan[CATKHIZE_PLAN_OCTETS];
 static uint8_t heads[CATKHIZE_HEADS_OCTETS];
 static uint8_t store[CATKHIZE_STORE_OCTETS + 8u];
 static uint8_t output[CATKHIZE_STORE_OCTETS];
-static uint8_t answer[64];
+static uint8_t answer[96];
 
 static const uint8_t message[7] = {0x30, 0x31, 0x32, 0x33, 0x34, 0x35, 0x36};
 
@@ -54,6 +54,14 @@ static int zero(const uint8_t *octets, size_t count) {
         }
     }
     return 1;
+}
+
+/* A REPLY, or a RECEPTION, has a response with this status and a map of so many entries, and these figures beside it. */
+static int says(const uint8_t *reply, uint8_t status, unsigned entries, unsigned missing, unsigned first) {
+    const uint8_t *response = reply + CATKHIZE_REPLY_AT_RESPONSE;
+    return reply[CATKHIZE_REPLY_AT_PRESENT] == 1 && response[CATKHIZE_RESPONSE_AT_STATUS] == status
+        && catkhize_get16(response + CATKHIZE_RESPONSE_AT_ENTRIES) == entries && catkhize_get16(reply + CATKHIZE_REPLY_AT_MISSING) == missing
+        && catkhize_get16(reply + CATKHIZE_REPLY_AT_FIRST_MISSING) == first;
 }
 
 static void fill(uint8_t *octets, size_t count) { memset(octets, FILLING, count); }
@@ -89,6 +97,19 @@ static void test_numbers(void) {
     CHECK(octets[0] == 0x01 && octets[7] == 0xef);
     CHECK(catkhize_get64(octets) == 0x0123456789abcdefu);
     CHECK(catkhize_get32(octets) == 0x01234567u && catkhize_get16(octets + 2) == 0x4567u);
+}
+
+/* Where the parts of an answer stand, one behind another. */
+static void test_layouts(void) {
+    CHECK(CATKHIZE_REPLY_AT_MISSING == CATKHIZE_REPLY_AT_RESPONSE + CATKHIZE_RESPONSE_OCTETS);
+    CHECK(CATKHIZE_REPLY_AT_FIRST_MISSING == CATKHIZE_REPLY_AT_MISSING + 2u);
+    CHECK(CATKHIZE_REPLY_OCTETS == CATKHIZE_REPLY_AT_FIRST_MISSING + 2u);
+    CHECK(CATKHIZE_RECEPTION_AT_PRESENT == 0u && CATKHIZE_RECEPTION_AT_RESPONSE == 1u);
+    CHECK(CATKHIZE_RECEPTION_AT_MISSING == 42u && CATKHIZE_RECEPTION_AT_FIRST_MISSING == 44u);
+    CHECK(CATKHIZE_RECEPTION_AT_HANDED_OVER == 46u && CATKHIZE_RECEPTION_AT_MESSAGE_OCTETS == 47u);
+    CHECK(CATKHIZE_RECEPTION_OCTETS == CATKHIZE_RECEPTION_AT_MESSAGE_OCTETS + 8u);
+    CHECK(CATKHIZE_TRAIN_OCTETS == CATKHIZE_TRAIN_AT_RECEPTION + CATKHIZE_RECEPTION_OCTETS);
+    CHECK(CATKHIZE_NONE_MISSING == 256u);
 }
 
 static void test_encode(void) {
@@ -223,7 +244,8 @@ static void test_receiver(void) {
     CHECK(untouched(answer, sizeof answer) && untouched(store, sizeof store));
     begin_of(segment, 2, CATKHIZE_WINDOW_LAST);
     CHECK(receive(segment, message, 4, 1000) == CATKHIZE_DONE);
-    CHECK(zero(answer, CATKHIZE_RECEPTION_OCTETS) && untouched(answer + CATKHIZE_RECEPTION_OCTETS, 13));
+    CHECK(zero(answer, CATKHIZE_RECEPTION_OCTETS));
+    CHECK(untouched(answer + CATKHIZE_RECEPTION_OCTETS, sizeof answer - CATKHIZE_RECEPTION_OCTETS));
     CHECK(memcmp(store, message, 4) == 0 && untouched(store + 4, sizeof store - 4));
     CHECK(record[CATKHIZE_RECEIVER_AT_STATE] == CATKHIZE_RECEIVER_RECEIVING);
     CHECK(catkhize_get64(record + CATKHIZE_RECEIVER_AT_STORED_OCTETS) == 4);
@@ -236,6 +258,8 @@ static void test_receiver(void) {
     CHECK(answer[CATKHIZE_RECEPTION_AT_RESPONSE + CATKHIZE_RESPONSE_AT_STATUS] == CATKHIZE_STATUS_RECEIVED);
     CHECK(catkhize_get16(answer + CATKHIZE_RECEPTION_AT_RESPONSE + CATKHIZE_RESPONSE_AT_ENTRIES) == 2);
     CHECK(catkhize_entry(answer + CATKHIZE_RECEPTION_AT_RESPONSE + CATKHIZE_RESPONSE_AT_MAP, 1));
+    CHECK(catkhize_get16(answer + CATKHIZE_RECEPTION_AT_MISSING) == 0);
+    CHECK(catkhize_get16(answer + CATKHIZE_RECEPTION_AT_FIRST_MISSING) == CATKHIZE_NONE_MISSING);
     CHECK(answer[CATKHIZE_RECEPTION_AT_HANDED_OVER] == 1);
     CHECK(catkhize_get64(answer + CATKHIZE_RECEPTION_AT_MESSAGE_OCTETS) == 7);
     CHECK(memcmp(output, message, 7) == 0 && untouched(output + 7, sizeof output - 7));
@@ -253,15 +277,59 @@ static void test_receiver_time(void) {
     CHECK(receive(segment, message, 1, 0) == CATKHIZE_DONE);
     fill(answer, sizeof answer);
     CHECK(catkhize_receiver_advance(record, sizeof record, store, sizeof store, 299999, answer, sizeof answer) == CATKHIZE_DONE);
-    CHECK(zero(answer, CATKHIZE_REPLY_OCTETS) && untouched(answer + CATKHIZE_REPLY_OCTETS, 22));
+    CHECK(zero(answer, CATKHIZE_REPLY_OCTETS) && untouched(answer + CATKHIZE_REPLY_OCTETS, sizeof answer - CATKHIZE_REPLY_OCTETS));
+    fill(answer, sizeof answer);
     CHECK(catkhize_receiver_advance(record, sizeof record, store, sizeof store, 300000, answer, sizeof answer) == CATKHIZE_DONE);
-    CHECK(answer[CATKHIZE_REPLY_AT_PRESENT] == 1);
-    CHECK(answer[CATKHIZE_REPLY_AT_RESPONSE + CATKHIZE_RESPONSE_AT_STATUS] == CATKHIZE_STATUS_INTER_SEGMENT_TIMEOUT);
+    CHECK(says(answer, CATKHIZE_STATUS_INTER_SEGMENT_TIMEOUT, 2, 1, 1));
+    CHECK(untouched(answer + CATKHIZE_REPLY_OCTETS, sizeof answer - CATKHIZE_REPLY_OCTETS));
     CHECK(catkhize_receiver_advance(record, sizeof record, store, sizeof store, 299999, answer, sizeof answer) == CATKHIZE_REFUSED_CLOCK_REGRESSION);
     CHECK(catkhize_receiver_cancel(record, sizeof record, store, sizeof store, 300000) == CATKHIZE_DONE);
     CHECK(record[CATKHIZE_RECEIVER_AT_STATE] == CATKHIZE_RECEIVER_CANCELED);
     CHECK(zero(store, CATKHIZE_STORE_OCTETS) && untouched(store + CATKHIZE_STORE_OCTETS, 8));
     CHECK(receive(segment, message, 1, 300000) == CATKHIZE_REFUSED_CLOSED);
+}
+
+/* Segments of one octet each, the octet their sequence number, under Every4 and with End 5. */
+static uint32_t receive_one(uint8_t sequence, uint64_t reading) {
+    uint8_t segment[CATKHIZE_SEGMENT_OCTETS];
+    if (sequence == 0) {
+        begin_of(segment, 2, CATKHIZE_WINDOW_EVERY4);
+    } else {
+        segment_of(segment, 2, sequence, sequence == 5 ? CATKHIZE_KIND_END : CATKHIZE_KIND_CONTINUE);
+    }
+    return receive(segment, &sequence, 1, reading);
+}
+
+/* The figures beside every response of a reception with gaps; where there is no response, they are 0. */
+static void test_figures(void) {
+    uint8_t segment[CATKHIZE_SEGMENT_OCTETS];
+    const uint8_t other = 9;
+    new_receiver(0);
+    CHECK(receive_one(0, 0) == CATKHIZE_DONE && zero(answer, CATKHIZE_RECEPTION_OCTETS));
+    CHECK(receive_one(3, 0) == CATKHIZE_DONE && says(answer, CATKHIZE_STATUS_CONTINUING, 4, 2, 1));
+    CHECK(zero(answer + CATKHIZE_RECEPTION_AT_HANDED_OVER, 9));
+    CHECK(untouched(answer + CATKHIZE_RECEPTION_OCTETS, sizeof answer - CATKHIZE_RECEPTION_OCTETS));
+    CHECK(receive_one(5, 0) == CATKHIZE_DONE && says(answer, CATKHIZE_STATUS_CONTINUING, 6, 3, 1));
+    fill(answer, sizeof answer);
+    CHECK(catkhize_receiver_advance(record, sizeof record, store, sizeof store, 300000, answer, sizeof answer) == CATKHIZE_DONE);
+    CHECK(says(answer, CATKHIZE_STATUS_INTER_SEGMENT_TIMEOUT, 6, 3, 1));
+    CHECK(receive_one(1, 300000) == CATKHIZE_DONE && zero(answer, CATKHIZE_RECEPTION_OCTETS));
+    CHECK(receive_one(2, 300000) == CATKHIZE_DONE && zero(answer, CATKHIZE_RECEPTION_OCTETS));
+    CHECK(receive_one(3, 300000) == CATKHIZE_DONE && says(answer, CATKHIZE_STATUS_CONTINUING, 6, 1, 4));
+    CHECK(receive_one(4, 300000) == CATKHIZE_DONE && says(answer, CATKHIZE_STATUS_RECEIVED, 6, 0, CATKHIZE_NONE_MISSING));
+    CHECK(answer[CATKHIZE_RECEPTION_AT_HANDED_OVER] == 1 && catkhize_get64(answer + CATKHIZE_RECEPTION_AT_MESSAGE_OCTETS) == 6);
+
+    /* A repeat that differs: its slot is held, and the map ends there. */
+    new_receiver(0);
+    CHECK(receive_one(0, 0) == CATKHIZE_DONE && receive_one(2, 0) == CATKHIZE_DONE);
+    segment_of(segment, 2, 2, CATKHIZE_KIND_CONTINUE);
+    CHECK(receive(segment, &other, 1, 0) == CATKHIZE_DONE && says(answer, CATKHIZE_STATUS_ABORTED, 3, 1, 1));
+
+    /* A Begin that fails is not held. */
+    new_receiver(0);
+    begin_of(segment, 2, CATKHIZE_WINDOW_EVERY4);
+    segment[CATKHIZE_SEGMENT_AT_COMPRESSION] = CATKHIZE_COMPRESSION_V42BIS;
+    CHECK(receive(segment, &other, 1, 0) == CATKHIZE_DONE && says(answer, CATKHIZE_STATUS_COMPRESSION_UNSUPPORTED, 1, 1, 0));
 }
 
 static uint32_t take_train(const uint8_t *octets, size_t octets_octets, const uint8_t *lengths, size_t lengths_octets) {
@@ -282,7 +350,7 @@ static void test_train(void) {
     new_receiver(0);
     CHECK(take_train(octets, sizeof octets, lengths, sizeof lengths) == CATKHIZE_DONE);
     CHECK(catkhize_get64(answer + CATKHIZE_TRAIN_AT_RECEIVED) == 2);
-    CHECK(answer[CATKHIZE_TRAIN_AT_RECEPTION + CATKHIZE_RECEPTION_AT_PRESENT] == 0);
+    CHECK(zero(answer + CATKHIZE_TRAIN_AT_RECEPTION, CATKHIZE_REPLY_OCTETS));
     CHECK(answer[CATKHIZE_TRAIN_AT_RECEPTION + CATKHIZE_RECEPTION_AT_HANDED_OVER] == 1);
     CHECK(catkhize_get64(answer + CATKHIZE_TRAIN_AT_RECEPTION + CATKHIZE_RECEPTION_AT_MESSAGE_OCTETS) == 2);
     CHECK(output[0] == 0x41 && output[1] == 0x42 && untouched(output + 2, sizeof output - 2));
@@ -314,12 +382,55 @@ static void test_train_goes_on(void) {
         for (; received < until; received++)
             at += catkhize_get16(lengths + 2 * received);
         CHECK(received == behind[stops]);
-        CHECK(answer[CATKHIZE_TRAIN_AT_RECEPTION + CATKHIZE_RECEPTION_AT_PRESENT] == 1);
+        CHECK(says(answer + CATKHIZE_TRAIN_AT_RECEPTION, received == 6 ? CATKHIZE_STATUS_RECEIVED : CATKHIZE_STATUS_CONTINUING, (unsigned)received, 0,
+            CATKHIZE_NONE_MISSING));
         CHECK(answer[CATKHIZE_TRAIN_AT_RECEPTION + CATKHIZE_RECEPTION_AT_HANDED_OVER] == (received == 6));
         stops++;
     }
     CHECK(stops == 2);
     CHECK(memcmp(output, "ABCDEF", 6) == 0 && untouched(output + 6, sizeof output - 6));
+}
+
+/* The same train without its third segment, which comes last: the figures of each answer. */
+static void test_train_figures(void) {
+    static const uint8_t octets[26] = {0x02, 0x00, 0x01, 0x41, 0x20, 0x08, 0x0a, 0x01, 0x01, 0x42, 0x0a, 0x03, 0x01, 0x44, 0x0a, 0x04, 0x01, 0x45,
+        0x12, 0x05, 0x01, 0x46, 0x0a, 0x02, 0x01, 0x43};
+    static const uint8_t lengths[12] = {0, 6, 0, 4, 0, 4, 0, 4, 0, 4, 0, 4};
+    const uint8_t *reception = answer + CATKHIZE_TRAIN_AT_RECEPTION;
+    new_receiver(0);
+    CHECK(take_train(octets, sizeof octets, lengths, sizeof lengths) == CATKHIZE_DONE);
+    CHECK(catkhize_get64(answer + CATKHIZE_TRAIN_AT_RECEIVED) == 3 && says(reception, CATKHIZE_STATUS_CONTINUING, 4, 1, 2));
+    CHECK(take_train(octets + 14, sizeof octets - 14, lengths + 6, sizeof lengths - 6) == CATKHIZE_DONE);
+    CHECK(catkhize_get64(answer + CATKHIZE_TRAIN_AT_RECEIVED) == 2 && says(reception, CATKHIZE_STATUS_CONTINUING, 6, 1, 2));
+    CHECK(reception[CATKHIZE_RECEPTION_AT_HANDED_OVER] == 0);
+    CHECK(take_train(octets + 22, sizeof octets - 22, lengths + 10, sizeof lengths - 10) == CATKHIZE_DONE);
+    CHECK(catkhize_get64(answer + CATKHIZE_TRAIN_AT_RECEIVED) == 1);
+    CHECK(says(reception, CATKHIZE_STATUS_RECEIVED, 6, 0, CATKHIZE_NONE_MISSING));
+    CHECK(reception[CATKHIZE_RECEPTION_AT_HANDED_OVER] == 1);
+    CHECK(untouched(answer + CATKHIZE_TRAIN_OCTETS, sizeof answer - CATKHIZE_TRAIN_OCTETS));
+}
+
+/* Answers that are too short, by an octet and by the figures. */
+static void test_short_answers(void) {
+    static const uint8_t octets[4] = {0x02, 0x00, 0x01, 0x41};
+    static const uint8_t lengths[2] = {0, 4};
+    uint8_t segment[CATKHIZE_SEGMENT_OCTETS];
+    unsigned less;
+    new_receiver(0);
+    begin_of(segment, 2, CATKHIZE_WINDOW_EVERY4);
+    fill(answer, sizeof answer);
+    for (less = 1; less <= 4; less += 3) {
+        CHECK(catkhize_receiver_receive(record, sizeof record, store, sizeof store, output, sizeof output, PEER, PROTOCOL, segment, sizeof segment,
+                  message, 1, 0, 0, answer, CATKHIZE_RECEPTION_OCTETS - less)
+            == CATKHIZE_REFUSED_BUFFER_TOO_SHORT);
+        CHECK(catkhize_receiver_advance(record, sizeof record, store, sizeof store, 0, answer, CATKHIZE_REPLY_OCTETS - less)
+            == CATKHIZE_REFUSED_BUFFER_TOO_SHORT);
+        CHECK(catkhize_receiver_train(record, sizeof record, store, sizeof store, output, sizeof output, PEER, PROTOCOL, octets, sizeof octets, lengths,
+                  sizeof lengths, 0, answer, CATKHIZE_TRAIN_OCTETS - less)
+            == CATKHIZE_REFUSED_BUFFER_TOO_SHORT);
+    }
+    CHECK(record[CATKHIZE_RECEIVER_AT_STATE] == CATKHIZE_RECEIVER_AWAITING_BEGIN);
+    CHECK(untouched(answer, sizeof answer) && untouched(store, sizeof store));
 }
 
 #define NUMBER 77u
@@ -415,14 +526,18 @@ static void test_sender_ends(void) {
 
 static void run(void) {
     test_numbers();
+    test_layouts();
     test_encode();
     test_decode();
     test_plan();
     test_frozen();
     test_receiver();
     test_receiver_time();
+    test_figures();
     test_train();
     test_train_goes_on();
+    test_train_figures();
+    test_short_answers();
     test_sender();
     test_sender_ends();
 }

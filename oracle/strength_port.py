@@ -174,6 +174,7 @@ error('q02 6/6 after 1', Q, '''        if map_length_refused(self.acknowledgment
             return Validated::Refused(Error::Field(ErrorField::AcknowledgmentMapLength));
         }''')
 error('q03 a support list from version 6 on', Q, 'const PV5: u8 = 5;', 'const PV5: u8 = 6;')
+error('q04 a map without its last entry', Q, 'first_entries(received, last as u16 + 1)', 'first_entries(received, last as u16)')
 error('o01 the last octet uncopied', O, '    while i < n {\n        dst[at + i]', '    while i + 1 < n {\n        dst[at + i]')
 error('o02 the last octet of a repeat uncompared', O, '    while i < n {\n        if a[i] != b[i] {', '    while i + 1 < n {\n        if a[i] != b[i] {')
 
@@ -271,6 +272,20 @@ error('r36 failure forgets the stated length', B, '''    let message_length = st
 error('r37 closing keeps the held lengths', M, '    let lengths = empty_lengths();\n    let slots = empty_slots();\n    Receiver {', '    let mut lengths = empty_lengths();\n    lengths[0] = 1;\n    let slots = empty_slots();\n    Receiver {')
 error('r38 a repeat compared with the octets of slot 0', B, 'part(store, SLOT_OCTETS * sequence as usize, n)', 'part(store, 0, n)')
 error('r39 the kind of a repeat uncompared', B, 'if !same_kind(old, kind) {', 'if !same_kind(kind, kind) {')
+N = 'receiver_answers/src/lib.rt'
+error('r40 figures over all 256 slots', Q, 'Words::below(map.bit_count).minus(marks)', 'Words::below(256).minus(marks)')
+error('r41 255 where none is missing', Q, 'const NONE_MISSING: u16 = 256;', 'const NONE_MISSING: u16 = 255;')
+error('r42 the received entries counted in place of the missing ones', Q, 'let count = missing.ones();', 'let count = marks.ones();')
+error('r43 missing entries counted up to 191', W, 'let high = ones_in(self.c) + ones_in(self.d);', 'let high = ones_in(self.c);')
+error('r44 the last missing entry in place of the first', Q, 'first_of(missing.lowest())', 'first_of(missing.highest())')
+error('r45 the first missing entry counted from 1', Q, 'Found::At(s) => s as u16,', 'Found::At(s) => s as u16 + 1,')
+error('r46 figures of a timeout answer without the entry past the highest', A, 'let missing = built.missing;', 'let missing = map_of(held, last_entry(false, held, end)).missing;')
+error('r47 no figures beside a support list', A, 'let missing = reported.missing;', 'let missing = response::Missing { count: 0, first: 0 };')
+error('r48 the two figures exchanged', N, '''            put16(dst, at + FIGURES, missing.count);
+            put16(dst, at + FIGURES + FIGURE_OCTETS, missing.first);''', '''            put16(dst, at + FIGURES, missing.first);
+            put16(dst, at + FIGURES + FIGURE_OCTETS, missing.count);''')
+error('r49 the first missing entry written lowest octet first', N, 'missing.first);', 'missing.first % 256 * 256 + missing.first / 256);')
+error('r50 octets of the figures left as they were where there is no response', N, 'let none = [0u8; REPLY_OCTETS];', 'let none = [0u8; FIGURES];')
 
 # ---- sender
 K, J, U, V, X, Y = ('sender/src/' + f for f in ('checks.rt', 'marks.rt', 'steps.rt', 'turns.rt', 'lib.rt', 'plans.rt'))

@@ -21,6 +21,7 @@ use Rattle.receiver.specs.declared.ReceiverState.{ReceiverState}
 use Rattle.receiver.specs.declared.ReceiverState.the-variants.{AwaitingBegin, Receiving, Complete, Failed, Expired, Canceled}
 use Rattle.receiver.specs.declared.Deadline.the-variants as deadline
 use Rattle.receiver.specs.declared.Receiver.{Receiver}
+use Rattle.receiver.specs.declared.Reported.{Reported}
 use Rattle.receiver.specs.Record.{complete, storeOctets, slotOctets}
 use Rattle.receiver.specs.Answers.{Answer, refused, answered, Step, respond, required, requiredResponse, listedIn, failResponse}
 use Rattle.receiver.specs.Receive.{Arrival, sequence, slotRules, settle, kept, atStage, Stage, Outcome, fails, repeats, closes, keeps, finishes}
@@ -31,15 +32,20 @@ use Rattle.delivery.specs.Rules.{by-rules, by-receive, by-advance, by-ca
 
 -- ---- Received
 
+-- a response without its figures
+abbrev pub responseIn : Option Reported → Option Response
+responseIn none = none
+responseIn (some x) = some (x .response)
+
 -- the response that an answer asks for
 abbrev pub responded : Answer → Option Response
 responded (refused n) = none
-responded (answered x m) = x
+responded (answered x m) = responseIn x
 
 -- a response, where there is one, has status s
-abbrev Has : Status → Option Response → Type 0
+abbrev Has : Status → Option Reported → Type 0
 Has s none = Unit {0}
-Has s (some x) = x .status ≡ s
+Has s (some x) = x .response .status ≡ s
 
 -- a response has the status asked for
 respond-has : (r : Receiver) (s : Status) (next : Bool) → Has s (respond r s next)
@@ -50,7 +56,7 @@ required-has : (r : Receiver) (x : Segment) (s : Status) → Has s (requiredResp
 required-has r x s = either (Has s) (required r x s) (respond r s false) none (λ e. respond-has r s false) (λ e. tt)
 
 -- a support list keeps the status
-listed-has : (b : Bool) (s : Status) (y : Option Response) → Has s y → Has s (listedIn b y)
+listed-has : (b : Bool) (s : Status) (y : Option Reported) → Has s y → Has s (listedIn b y)
 listed-has b s none h = tt
 listed-has true s (some y) h = h
 listed-has false s (some y) h = h
@@ -64,7 +70,7 @@ abbrev Tells : Step → Type 0
 Tells st = (x : Response) → responded (st .answer) ≡ some x → x .status ≡ status.Received → st .receiver .progress .state ≡ Complete
 
 -- a response with another status
-other-status : {A : Type 0} (s : Status) (y : Option Response) → Has s y → eqb (statusNumber s) 10 ≡ false → (x : Response) → y ≡ some x → x .status ≡ status.Received → A
+other-status : {A : Type 0} (s : Status) (y : Option Reported) → Has s y → eqb (statusNumber s) 10 ≡ false → (x : Response) → responseIn y ≡ some x → x .status ≡ status.Received → A
 other-status s none h n x e f = absurd (let z : _≡_ {A = ℕ} 0 1 = cc in omega arith)
 other-status s (some y) h n x e f =
     let z : s ≡ status.Received = cc in
@@ -88,7 +94,7 @@ module _ (interval : ℕ) (r : Receiver) (a : Arrival) (store o : List ℕ) wher
   repeated-tells : Tells (settle interval repeats r a store o)
   repeated-tells = go (complete (r .progress .state)) refl
     where
-      go : (b : Bool) → complete (r .progress .state) ≡ b → (x : Response) → requiredResponse r (a .segment) (cond b status.Received status.Continuing) ≡ some x → x .status ≡ status.Received → r .progress .state ≡ Complete
+      go : (b : Bool) → complete (r .progress .state) ≡ b → (x : Response) → responseIn (requiredResponse r (a .segment) (cond b status.Received status.Continuing)) ≡ some x → x .status ≡ status.Received → r .progress .state ≡ Complete
       go true e x f g = is-complete (r .progress .state) e
       go false e x f g = other-status status.Continuing (requiredResponse r (a .segment) status.Continuing) (required-has r (a .segment) status.Continuing) refl x f g
 

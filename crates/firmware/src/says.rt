@@ -32,13 +32,19 @@ fn refusal(e: ReceiveError) {
 fn reply(x: Reply) {
     match x {
         Reply::Nothing => say(b"no response"),
-        Reply::Response(r) => {
-            let status = r.status;
-            let map = r.acknowledgments;
+        Reply::Response(reported) => {
+            let response = reported.response;
+            let status = response.status;
+            let map = response.acknowledgments;
+            let missing = reported.missing;
             say(b"response of status ");
             say_number(status_number(status) as u64);
             say(b", map of ");
             say_number(map.bit_count as u64);
+            say(b", missing ");
+            say_number(missing.count as u64);
+            say(b", first ");
+            say_number(missing.first as u64);
         }
     }
 }

@@ -3,7 +3,7 @@ use mathlib.Core.Option.{Option, none, some}
 use Prim.Native.Nat.{ℕ}
 use mathlib.Core.List.{List, []}
 use Rattle.tsar.specs.Rows.{Refusal}
-use Rattle.response.specs.declared.Response.{Response}
+use Rattle.receiver.specs.declared.Reported.{Reported}
 use Rattle.receiver.specs.declared.Reply.{Reply}
 use Rattle.receiver.specs.declared.Reply.the-variants as reply
 use Rattle.receiver.specs.declared.Message.{Message}
@@ -24,7 +24,7 @@ use Rattle.receiver.specs.Numbers.{receiveNumber}
 use Rattle.receiver.specs.Answers.{Answer, refused, answered, Step}
 use Rattle.receiver.specs.Advance.{Made}
 
-abbrev pub replySays : Reply → Option Response
+abbrev pub replySays : Reply → Option Reported
 replySays reply.Nothing = none
 replySays (reply.Response x) = some x
 

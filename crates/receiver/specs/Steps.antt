@@ -24,7 +24,6 @@ use Rattle.response.specs.Responses.{statusNumber, mapOf}
 use Rattle.response.specs.declared.Status.{Status}
 use Rattle.response.specs.declared.Status.the-variants as status
 use Rattle.response.specs.declared.SupportList.the-variants as support
-use Rattle.response.specs.declared.Response.{Response}
 use Rattle.receiver.specs.declared.ReceiverState.{ReceiverState}
 use Rattle.receiver.specs.declared.ReceiverState.the-variants as state
 use Rattle.receiver.specs.declared.Deadline.{Deadline}
@@ -32,6 +31,7 @@ use Rattle.receiver.specs.declared.Deadline.the-variants as deadline
 use Rattle.receiver.specs.declared.Terms.{Terms}
 use Rattle.receiver.specs.declared.Progress.{Progress}
 use Rattle.receiver.specs.declared.Receiver.{Receiver}
+use Rattle.receiver.specs.declared.Reported.{Reported}
 use Rattle.receiver.specs.declared.Receive.{Receive}
 use Rattle.receiver.specs.declared.AdvanceAnswer.the-variants as advances
 use Rattle.receiver.specs.declared.Advance.{Advance}
@@ -52,7 +52,7 @@ use Rattle.receiver.specs.declared.turns.Slots.the-variants as after
 use Rattle.receiver.specs.declared.turns.Turn.{Turn}
 use Rattle.receiver.specs.Numbers.{receiveNumber}
 use Rattle.receiver.specs.Record.{taking, awaiting, receiving, complete, receivingOrComplete, statesBelow, statesAbove, clash, pastEnd, otherEnd, running, storeOctets, heldLength, sumTo, isHeld, kindAt, lengthAt, part, emptySlots, emptyLengths, gap, late, wiped, with, read}
-use Rattle.receiver.specs.Answers.{Step, refused, answered, refuses, lastEntry, acknowledges, periodic, listedIn}
+use Rattle.receiver.specs.Answers.{Step, refused, answered, refuses, lastEntry, acknowledges, periodic, reported, listedIn}
 use Rattle.receiver.specs.Says.{received}
 use Rattle.receiver.specs.Receive as receive
 use Rattle.receiver.specs.Receive.{Arrival, Outcome, fails, repeats, closes, keeps, finishes, before, begun, noted, keeping, servicesOf, statedOf, endOf, sameKind, slotRules, settle, lateOr}
@@ -63,24 +63,24 @@ abbrev pub standingOf : Progress → Words → Standing
 standingOf p held =
     record { services = p .services; «end_sequence» = p .«end_sequence»; «message_length» = p .«message_length»; held = held }
 
-abbrev pub replyOf : ℕ → Standing → Status → Bool → Option Response
+abbrev pub replyOf : ℕ → Standing → Status → Bool → Option Reported
 replyOf transaction x s next =
     cond (prohibited (x .services .«acknowledgment_window»)) none
-    (some (record {
+    (some (reported (record {
       «transaction_id» = transaction;
       status = s;
       acknowledgments = mapOf (marked (x .held)) (suc (lastEntry next (x .held) (x .«end_sequence»)));
       «optional_services_support» = support.Absent;
-    }))
+    })))
 
 abbrev pub requiredFor : AcknowledgmentWindow → SegmentKind → ℕ → Status → Bool
 requiredFor w k n s = acknowledges w && (eqb (statusNumber s) 10 || isEnd k || periodic w n)
 
-abbrev pub requiredReply : ℕ → Standing → Segment → Status → Option Response
+abbrev pub requiredReply : ℕ → Standing → Segment → Status → Option Reported
 requiredReply transaction x g s =
     cond (requiredFor (x .services .«acknowledgment_window») (g .kind) (g .«sequence_number») s) (replyOf transaction x s false) none
 
-abbrev pub failReply : Terms → Standing → Status → Option Response
+abbrev pub failReply : Terms → Standing → Status → Option Reported
 failReply t x s = listedIn (eqb (statusNumber s) 13 && leb 5 (t .version)) (replyOf (t .«transaction_id») x s false)
 
 abbrev pub closedProgress : Standing → ReceiverState → ℕ → Progress

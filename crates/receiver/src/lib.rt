@@ -1,6 +1,7 @@
 // The receiver of one transaction: link/tsar/receiver.rs of the source. Its calls are in machine.
 use link::HigherLayerProtocol;
 use link::MobileIdentity;
+use response::Missing;
 use response::Response;
 use response::Status;
 use tsar::Error;
@@ -103,10 +104,16 @@ pub enum ReceiveError {
     ImpossibleState,
 }
 
-// A response that a call asks for: the source's Option<Response>.
+// A response with the figures of its map's missing entries, which stand beside it and not in it.
+pub struct Reported {
+    pub response: Response,
+    pub missing: Missing,
+}
+
+// A response that a call asks for: the source's Option<Response>, with the figures.
 pub enum Reply {
     Nothing,
-    Response(Response),
+    Response(Reported),
 }
 
 // A message that a call hands over: the first octets of the output, as many as this counts.

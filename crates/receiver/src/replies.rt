@@ -3,6 +3,7 @@ use crate::EndSequence;
 use crate::LAST_SEQUENCE;
 use crate::Progress;
 use crate::Reply;
+use crate::Reported;
 use crate::Terms;
 use crate::kinds::is_end;
 use crate::kinds::prohibited;
@@ -106,13 +107,16 @@ pub fn respond(transaction_id: u8, standing: Standing, status: Status, next: boo
     }
     let held = standing.held;
     let end = standing.end_sequence;
-    let acknowledgments = map_of(held, last_entry(next, held, end));
-    Reply::Response(Response {
+    let built = map_of(held, last_entry(next, held, end));
+    let acknowledgments = built.map;
+    let missing = built.missing;
+    let response = Response {
         transaction_id,
         status,
         acknowledgments,
         optional_services_support: SupportList::Absent,
-    })
+    };
+    Reply::Response(Reported { response, missing })
 }
 
 fn period(window: AcknowledgmentWindow) -> u16
@@ -174,8 +178,8 @@ pub fn required_response(
 }
 
 // With the support list: encryption and window.
-fn listed(response: Response) -> Response
-    ensures { λ r. ⌜ r ≡ listedOf true response ⌝ }
+fn listed(reported: Reported) -> Reported
+    ensures { λ r. ⌜ r ≡ listedOf true reported ⌝ }
 {
     let support = OptionalServicesSupport {
         compression: false,
@@ -183,10 +187,13 @@ fn listed(response: Response) -> Response
         acknowledgment_window: true,
         crc: false,
     };
-    Response {
+    let bare = reported.response;
+    let missing = reported.missing;
+    let response = Response {
         optional_services_support: SupportList::Listed(support),
-        ..response
-    }
+        ..bare
+    };
+    Reported { response, missing }
 }
 
 // The response to a failure, with the support list only for status 13 and version 5 or more.
@@ -200,11 +207,11 @@ pub fn fail_response(terms: Terms, standing: Standing, status: Status) -> Reply
     let reply = respond(terms.transaction_id, standing, status, false);
     match reply {
         Reply::Nothing => Reply::Nothing,
-        Reply::Response(response) => {
+        Reply::Response(reported) => {
             if several {
-                Reply::Response(listed(response))
+                Reply::Response(listed(reported))
             } else {
-                Reply::Response(response)
+                Reply::Response(reported)
             }
         }
     }

@@ -1,10 +1,10 @@
--- The number that a call on a receiver gives, and the layouts REPLY (42 octets) and RECEPTION (51) of what it answers. What is absent is 0 in
+-- The number that a call on a receiver gives, and the layouts REPLY (46 octets) and RECEPTION (55) of what it answers. What is absent is 0 in
 -- full width.
 use mathlib.Core.Option.{Option, none, some}
 use mathlib.Core.List.{List, [], _∷_, _++_}
 use Prim.Native.Nat.{ℕ}
 use lib.ListN.{replicate}
-use Rattle.response.specs.declared.Response.{Response}
+use Rattle.receiver.specs.declared.Reported.{Reported}
 use Rattle.receiver.specs.Answers.{Answer, refused, answered}
 use Rattle.codec_c.specs.Codes.{codeOf}
 use Rattle.image.specs.Numbers.{spell}
@@ -15,10 +15,10 @@ abbrev pub answerCode : Answer → ℕ
 answerCode (refused n) = codeOf n
 answerCode (answered r m) = 0
 
--- REPLY, a response: flag, RESPONSE
-unfoldable pub replyImage : Option Response → List ℕ
-replyImage none = replicate 42 0
-replyImage (some r) = 1 ∷ responseImage r
+-- REPLY, a response: flag, RESPONSE, how many entries of its map are missing, the first of them
+unfoldable pub replyImage : Option Reported → List ℕ
+replyImage none = replicate 46 0
+replyImage (some x) = 1 ∷ responseImage (x .response) ++ (spell 2 (x .missing .count) ++ spell 2 (x .missing .first))
 
 -- a message that is handed over: flag, number of octets
 unfoldable pub messageImage : Option ℕ → List ℕ
@@ -26,7 +26,7 @@ messageImage none = replicate 9 0
 messageImage (some n) = 1 ∷ spell 8 n
 
 -- RECEPTION: both
-unfoldable pub receptionImage : Option Response → Option ℕ → List ℕ
+unfoldable pub receptionImage : Option Reported → Option ℕ → List ℕ
 receptionImage r m = replyImage r ++ messageImage m
 
 -- ---- what a call writes to its answer: nothing beside a refusal

@@ -2,6 +2,8 @@
 use codec_c::codes::DONE;
 use codec_c::codes::error_code as codec_code;
 use image::numbers::octets64;
+use image::numbers::put16;
+use image_link::RESPONSE_OCTETS;
 use image_link::put_response;
 use receiver::AdvanceAnswer;
 use receiver::CancelAnswer;
@@ -19,9 +21,16 @@ ghost use Rattle.receiver.specs.Numbers.{receiveNumber};
 ghost use Rattle.receiver.specs.Says.{replySays, messageSays, receiveSays, advanceSays, cancelSays};
 ghost use Rattle.receiver_answers.specs.Answers.{answerCode, replyImage, messageImage, receptionImage, replyOctets, receptionOctets};
 
-pub const REPLY_OCTETS: usize = 42;
+// The figures stand behind RESPONSE and its flag, in two octets each.
+const FIGURES: usize = 1 + RESPONSE_OCTETS;
 
-pub const RECEPTION_OCTETS: usize = 51;
+const FIGURE_OCTETS: usize = 2;
+
+pub const REPLY_OCTETS: usize = FIGURES + 2 * FIGURE_OCTETS;
+
+const MESSAGE_OCTETS: usize = 9;
+
+pub const RECEPTION_OCTETS: usize = REPLY_OCTETS + MESSAGE_OCTETS;
 
 // What a call gives that the receiver refuses: 256 * n for document 01's refusal n, or the codec's own.
 pub fn error_code(e: ReceiveError) -> u32
@@ -54,26 +63,30 @@ pub fn cancel_code(a: CancelAnswer) -> u32
     }
 }
 
-// REPLY at a place of octets: flag, RESPONSE.
+// REPLY at a place of octets: flag, RESPONSE, the figures of its map.
 pub fn put_reply(dst: &mut [u8], at: usize, reply: Reply)
-    requires { ⌜ at + 42 ≤ length (now dst) ⌝ }
-    ensures { λ _. ⌜ (now (dst .exit) ≡ sets (now (dst .entry)) at (replyImage (replySays reply))) × (length (replyImage (replySays reply)) ≡ 42) ⌝ }
+    requires { ⌜ at + 46 ≤ length (now dst) ⌝ }
+    ensures { λ _. ⌜ (now (dst .exit) ≡ sets (now (dst .entry)) at (replyImage (replySays reply))) × (length (replyImage (replySays reply)) ≡ 46) ⌝ }
 {
     match reply {
         Reply::Nothing => {
-            let none = [0u8; 42];
+            let none = [0u8; REPLY_OCTETS];
             octets::put(dst, at, &none);
         }
-        Reply::Response(r) => {
+        Reply::Response(x) => {
             let some = [1u8];
             octets::put(dst, at, &some);
-            put_response(dst, at + 1, r);
+            let response = x.response;
+            put_response(dst, at + 1, response);
+            let missing = x.missing;
+            put16(dst, at + FIGURES, missing.count);
+            put16(dst, at + FIGURES + FIGURE_OCTETS, missing.first);
         }
     }
 }
 
 // A message that is handed over: flag, number of octets.
-fn message_octets(m: Message) -> [u8; 9]
+fn message_octets(m: Message) -> [u8; MESSAGE_OCTETS]
     ensures { λ r. ⌜ r ≡ messageImage (messageSays m) ⌝ }
 {
     match m {
@@ -87,7 +100,7 @@ fn message_octets(m: Message) -> [u8; 9]
 
 // RECEPTION at a place of octets.
 pub fn put_received(dst: &mut [u8], at: usize, x: Reception)
-    requires { ⌜ at + 51 ≤ length (now dst) ⌝ }
+    requires { ⌜ at + 55 ≤ length (now dst) ⌝ }
     ensures { λ _. ⌜ now (dst .exit) ≡ sets (now (dst .entry)) at (receptionImage (replySays (x .response)) (messageSays (x .message))) ⌝ }
 {
     let reply = x.response;
@@ -99,7 +112,7 @@ pub fn put_received(dst: &mut [u8], at: usize, x: Reception)
 
 // What a receive answers, at the front of octets, and its number.
 pub fn put_reception(dst: &mut [u8], a: ReceiveAnswer) -> u32
-    requires { ⌜ 51 ≤ length (now dst) ⌝ }
+    requires { ⌜ 55 ≤ length (now dst) ⌝ }
     ensures { λ r. ⌜ (r ≡ answerCode (receiveSays a)) × (now (dst .exit) ≡ sets (now (dst .entry)) 0 (receptionOctets (receiveSays a))) ⌝ }
 {
     match a {
@@ -113,7 +126,7 @@ pub fn put_reception(dst: &mut [u8], a: ReceiveAnswer) -> u32
 
 // What an advance answers, at the front of octets, and its number.
 pub fn put_advance(dst: &mut [u8], a: AdvanceAnswer) -> u32
-    requires { ⌜ 42 ≤ length (now dst) ⌝ }
+    requires { ⌜ 46 ≤ length (now dst) ⌝ }
     ensures { λ r. ⌜ (r ≡ answerCode (advanceSays a)) × (now (dst .exit) ≡ sets (now (dst .entry)) 0 (replyOctets (advanceSays a))) ⌝ }
 {
     match a {

@@ -59,12 +59,12 @@ stepCall octets image answer s =
 
 -- ---- catkhize_receiver_receive
 
--- a record is 3930 octets, a segment 15 and an answer 51; the protocols are 0 to 2
+-- a record is 3930 octets, a segment 15 and an answer 55; the protocols are 0 to 2
 abbrev pub receiveTests : List ℕ → ℕ → List ℕ → List ℕ → List (Bool × Refusal)
 receiveTests image protocol segment answer =
     (ltb (length image) 3930, short)
     ∷ (ltb (length segment) 15, short)
-    ∷ (ltb (length answer) 51, short)
+    ∷ (ltb (length answer) 55, short)
     ∷ (not (imageOk image), misspelled)
     ∷ (not (segmentOk segment), misspelled)
     ∷ (ltb 2 protocol, unnamed)
@@ -88,9 +88,9 @@ receiveCall image store output kind width value protocol octet segment octets un
 
 -- ---- catkhize_receiver_advance
 
--- a record is 3930 octets and an answer 42
+-- a record is 3930 octets and an answer 46
 abbrev pub advanceTests : List ℕ → List ℕ → List (Bool × Refusal)
-advanceTests image answer = (ltb (length image) 3930, short) ∷ (ltb (length answer) 42, short) ∷ (not (imageOk image), misspelled) ∷ []
+advanceTests image answer = (ltb (length image) 3930, short) ∷ (ltb (length answer) 46, short) ∷ (not (imageOk image), misspelled) ∷ []
 
 unfoldable pub advanceCall : (image store : List ℕ) (reading : ℕ) (answer : List ℕ) → Call
 advanceCall image store reading answer =

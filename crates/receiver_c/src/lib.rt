@@ -102,7 +102,7 @@ fn receive_into(
     reading: u64,
     answer: &mut [u8],
 ) -> u32
-    requires { ⌜ (3930 ≤ length (now «record»)) × (51 ≤ length (now answer)) ⌝ }
+    requires { ⌜ (3930 ≤ length (now «record»)) × (55 ≤ length (now answer)) ⌝ }
     ensures { λ r. ⌜ call r (now («record» .exit)) (now (store .exit)) (now (output .exit)) (now (answer .exit)) ≡ stepCall receptionOctets (now («record» .entry)) (now (answer .entry)) (receiveOf 300000 receiver (record { peer = peer; protocol = protocol; segment = segment; octets = now («data» .entry); unparsed = unparsed; reading = reading }) (now (store .entry)) (now (output .entry))) ⌝ }
 {
     let given = receiver.receive(
@@ -190,7 +190,7 @@ fn advance_into(
     reading: u64,
     answer: &mut [u8],
 ) -> u32
-    requires { ⌜ (3930 ≤ length (now «record»)) × (42 ≤ length (now answer)) ⌝ }
+    requires { ⌜ (3930 ≤ length (now «record»)) × (46 ≤ length (now answer)) ⌝ }
     ensures { λ r. ⌜ call r (now («record» .exit)) (now (store .exit)) [] (now (answer .exit)) ≡ stepCall replyOctets (now («record» .entry)) (now (answer .entry)) (advanceOf receiver (now (store .entry)) reading) ⌝ }
 {
     let given = receiver.advance(reading, store);

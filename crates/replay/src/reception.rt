@@ -19,10 +19,10 @@ const MAP: usize = 5;
 
 pub const MAP_OCTETS: usize = 32;
 
-// RECEPTION and REPLY in an answer, but for the map: response up to the map, support list; message and its length, whose sum stands behind.
+// RECEPTION and REPLY in an answer, but for the map, and for its figures, which the list has not: response up to the map, support list; message and its length, whose sum stands behind.
 const REPLY: [u8; 8] = [0, 5, 0, 5, 37, 5, 37, 5];
 
-const MESSAGE: [u8; 8] = [42, 1, 42, 1, 43, 8, 43, 4];
+const MESSAGE: [u8; 8] = [46, 1, 42, 1, 47, 8, 43, 4];
 
 const MESSAGE_FLAG: usize = 42;
 

@@ -138,18 +138,26 @@ pub record Tells (es : List Event) (s : Summary) : Type 0 where
   pub clean : rebuiltBy s ≡ true → (hands (handedOver es) ≡ true) × (failsLater es ≡ false) × (hasBadLine es ≡ false)
   pub cleans : hands (handedOver es) ≡ true → failsLater es ≡ false → hasBadLine es ≡ false → rebuiltBy s ≡ true
 
--- ---- from octets (docs/EXPORTS.md): RECEPTION has the message's flag at 42 and its number of octets from 43 on; RECEIVER has the state at
--- 23, of which 3 is Failed, and the deadline's flag at 41 and the deadline from 42 on; its first octet is 0 where it was not made
+-- ---- from octets (docs/EXPORTS.md): RECEPTION has how many entries of the response's map are missing from 42 on and the first of them from 44
+-- on, the message's flag at 46 and its number of octets from 47 on; RECEIVER has the state at 23, of which 3 is Failed, and the deadline's flag
+-- at 41 and the deadline from 42 on; its first octet is 0 where it was not made
 
-abbrev pub numberAt : List ℕ → ℕ → ℕ
-numberAt l at = cond (ltb (length (drop at l)) 8) 0 (numberOf 8 (drop at l))
+-- the number of w octets at a place; 0 past the end
+abbrev pub numberAt : ℕ → List ℕ → ℕ → ℕ
+numberAt w l at = cond (ltb (length (drop at l)) w) 0 (numberOf w (drop at l))
+
+abbrev pub missingIn : List ℕ → ℕ
+missingIn answer = numberAt 2 answer 42
+
+abbrev pub firstMissingIn : List ℕ → ℕ
+firstMissingIn answer = numberAt 2 answer 44
 
 abbrev pub handedIn : List ℕ → Handed
-handedIn answer = cond (eqb (getD answer 42 0) 0) handed.Nothing (handed.Octets (numberAt answer 43))
+handedIn answer = cond (eqb (getD answer 46 0) 0) handed.Nothing (handed.Octets (numberAt 8 answer 47))
 
 abbrev pub callEvent : List ℕ → List ℕ → Event
 callEvent answer receiver = event.Call (handedIn answer) (eqb (getD receiver 23 0) 3)
 
 -- whether a reading is past the deadline; at the deadline it is not
 abbrev pub pastDeadline : ℕ → List ℕ → Bool
-pastDeadline reading receiver = not (eqb (getD receiver 0 0) 0) && (not (eqb (getD receiver 41 0) 0) && ltb (numberAt receiver 42) reading)
+pastDeadline reading receiver = not (eqb (getD receiver 0 0) 0) && (not (eqb (getD receiver 41 0) 0) && ltb (numberAt 8 receiver 42) reading)

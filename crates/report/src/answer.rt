@@ -6,6 +6,8 @@ use crate::layout::pair_at;
 use crate::marks::say_marks;
 use crate::marks::say_missing;
 use crate::marks::say_open;
+use crate::outcome::first_missing_in;
+use crate::outcome::missing_in;
 use crate::reason::is_held;
 use crate::reason::reason_of;
 use crate::row::say_octets;
@@ -92,10 +94,16 @@ fn say_support(list: &[u8]) {
     say_flag(octet(list, 4), say::SUPPORTED + 4);
 }
 
-// A map: how many entries it has, and which are missing.
+// A map: how many entries it has, how many are missing and the first of them, by the answer's own figures; then which, if any.
 fn say_map(answer: &[u8]) {
     let n = pair_at(answer, layout::ENTRIES);
+    let missing = missing_in(answer);
     say::say(say::MAP, n, 0);
+    say::say(say::MAP + 1, missing, first_missing_in(answer));
+    if missing == 0 {
+        return;
+    }
+    say::say(say::MAP + 2, 0, 0);
     say_missing(from(answer, layout::MARKS), n as usize);
 }
 

@@ -1,5 +1,6 @@
 // Where things stand in the layouts of docs/EXPORTS.md, and how they are read there.
 use capture::text::from;
+use image::numbers::number16;
 use image::numbers::number64;
 ghost use mathlib.Core.Path.{_≡_};
 ghost use lib.ListN.{getD};
@@ -31,7 +32,8 @@ pub const CONTINUE: u8 = 1;
 
 pub const END_KIND: u8 = 2;
 
-// RECEPTION, whose front is REPLY: flag, transaction, status, entries, marks, support flag, supports; message flag and number of octets.
+// RECEPTION, whose front is REPLY: flag, transaction, status, entries, marks, support flag, supports, missing entries, first missing entry;
+// message flag and number of octets.
 pub const TRANSACTION: usize = 1;
 
 pub const STATUS: usize = 2;
@@ -42,9 +44,13 @@ pub const MARKS: usize = 5;
 
 pub const SUPPORT: usize = 37;
 
-pub const MESSAGE: usize = 42;
+pub const MISSING: usize = 42;
 
-pub const RECEPTION_OCTETS: usize = 51;
+pub const FIRST_MISSING: usize = 44;
+
+pub const MESSAGE: usize = 46;
+
+pub const RECEPTION_OCTETS: usize = 55;
 
 // RECEIVER: peer kind, width and value; protocol and its octet; transaction; version; maximum; state, with a status; end, stated length and
 // deadline, each with its flag; stored octets; held marks; data lengths.
@@ -90,15 +96,20 @@ pub fn octet(s: &[u8], at: usize) -> u8
     if at < s.len() { s[at] } else { 0 }
 }
 
-// The number of 16 bits at a place, as far as the octets go.
-pub fn pair_at(s: &[u8], at: usize) -> u64 {
+// The number of 16 bits at a place; 0 past the end.
+pub fn pair_at(s: &[u8], at: usize) -> u64
+    ensures { λ r. ⌜ r ≡ numberAt 2 (now (s .entry)) at ⌝ }
+{
     let t = from(s, at);
-    256 * octet(t, 0) as u64 + octet(t, 1) as u64
+    if t.len() < 2 {
+        return 0;
+    }
+    number16(t, 0) as u64
 }
 
 // The number of 64 bits at a place; 0 past the end.
 pub fn number_at(s: &[u8], at: usize) -> u64
-    ensures { λ r. ⌜ r ≡ numberAt (now (s .entry)) at ⌝ }
+    ensures { λ r. ⌜ r ≡ numberAt 8 (now (s .entry)) at ⌝ }
 {
     let t = from(s, at);
     if t.len() < 8 {

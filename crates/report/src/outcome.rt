@@ -2,9 +2,10 @@
 use crate::layout;
 use crate::layout::number_at;
 use crate::layout::octet;
+use crate::layout::pair_at;
 ghost use mathlib.Core.Path.{_≡_};
 ghost use mathlib.Core.Bool.{_&&_, _||_};
-ghost use Rattle.report.specs.Outcome.{hands, orElse, stepped, rebuiltBy, withResult, everyBy, startOf, noted, ended, handedIn, callEvent, pastDeadline};
+ghost use Rattle.report.specs.Outcome.{hands, orElse, stepped, rebuiltBy, withResult, everyBy, startOf, noted, ended, handedIn, callEvent, missingIn, firstMissingIn, pastDeadline};
 
 // What a call handed over: nothing, or a record of so many octets.
 pub enum Handed {
@@ -160,6 +161,19 @@ fn handed_in(answer: &[u8]) -> Handed
         return Handed::Nothing;
     }
     Handed::Octets(number_at(answer, layout::MESSAGE + 1))
+}
+
+// How many entries of a response's map are missing, and the first of them, as the answer has them.
+pub fn missing_in(answer: &[u8]) -> u64
+    ensures { λ r. ⌜ r ≡ missingIn (now (answer .entry)) ⌝ }
+{
+    pair_at(answer, layout::MISSING)
+}
+
+pub fn first_missing_in(answer: &[u8]) -> u64
+    ensures { λ r. ⌜ r ≡ firstMissingIn (now (answer .entry)) ⌝ }
+{
+    pair_at(answer, layout::FIRST_MISSING)
 }
 
 // What happened in a call, by its answer and by the receiver after it.

@@ -63,85 +63,85 @@ pub const RESPONSE: usize = 38;
 
 pub const MAP: usize = 39;
 
-pub const SUPPORTED: usize = 40;
+pub const SUPPORTED: usize = 42;
 
-pub const HANDED_OVER: usize = 45;
+pub const HANDED_OVER: usize = 47;
 
-pub const NOW: usize = 46;
+pub const NOW: usize = 48;
 
-pub const RESULT: usize = 47;
+pub const RESULT: usize = 49;
 
-pub const UNNAMED: usize = 48;
+pub const UNNAMED: usize = 50;
 
-pub const REBUILT: usize = 49;
+pub const REBUILT: usize = 51;
 
-pub const NOT_REBUILT: usize = 50;
+pub const NOT_REBUILT: usize = 52;
 
-pub const WAS_HANDED: usize = 51;
+pub const WAS_HANDED: usize = 53;
 
-pub const BUT_FAILED: usize = 52;
+pub const BUT_FAILED: usize = 54;
 
-pub const BUT_BAD: usize = 53;
+pub const BUT_BAD: usize = 55;
 
-pub const CALLS_REFUSED: usize = 54;
+pub const CALLS_REFUSED: usize = 56;
 
-pub const AT_LINE: usize = 55;
+pub const AT_LINE: usize = 57;
 
-pub const STANDING: usize = 56;
+pub const STANDING: usize = 58;
 
-pub const DEADLINES: usize = 57;
+pub const DEADLINES: usize = 59;
 
-pub const LAST_HELD: usize = 59;
+pub const LAST_HELD: usize = 61;
 
-pub const MISSING: usize = 60;
+pub const MISSING: usize = 62;
 
-pub const RUNS: usize = 61;
+pub const RUNS: usize = 63;
 
-pub const NONE: usize = 63;
+pub const NONE: usize = 65;
 
-pub const ALL: usize = 64;
+pub const ALL: usize = 66;
 
-pub const FOLLOWING: usize = 65;
+pub const FOLLOWING: usize = 67;
 
-pub const NO_RECEIVER: usize = 66;
+pub const NO_RECEIVER: usize = 68;
 
-pub const LINES_LOST: usize = 67;
+pub const LINES_LOST: usize = 69;
 
-pub const NO_SECTION: usize = 68;
+pub const NO_SECTION: usize = 70;
 
-pub const CAPTURE: usize = 69;
+pub const CAPTURE: usize = 71;
 
-pub const END: usize = 72;
+pub const END: usize = 74;
 
-pub const RESULTS: usize = 74;
+pub const RESULTS: usize = 76;
 
-pub const TOO_LONG: usize = 76;
+pub const TOO_LONG: usize = 78;
 
-pub const MISPLACED: usize = 77;
+pub const MISPLACED: usize = 79;
 
-pub const STATUS: usize = 78;
+pub const STATUS: usize = 80;
 
-pub const STATUSES: usize = 79;
+pub const STATUSES: usize = 81;
 
-pub const REASONS: usize = 93;
+pub const REASONS: usize = 95;
 
-pub const STATES: usize = 108;
+pub const STATES: usize = 110;
 
-pub const WORD_FAULTS: usize = 114;
+pub const WORD_FAULTS: usize = 116;
 
-pub const OCTET_FAULTS: usize = 119;
+pub const OCTET_FAULTS: usize = 121;
 
-pub const FORMS: usize = 122;
+pub const FORMS: usize = 124;
 
-pub const HEADING: usize = 138;
+pub const HEADING: usize = 140;
 
-pub const STOPPED: usize = 139;
+pub const STOPPED: usize = 141;
 
-pub const NOT_OPENED: usize = 140;
+pub const NOT_OPENED: usize = 142;
 
-pub const FIELDS: usize = 141;
+pub const FIELDS: usize = 143;
 
-pub const REFUSALS: usize = 148;
+pub const REFUSALS: usize = 150;
 
 // Past the last of them: no text.
 pub const NOTHING: usize = 255;
@@ -231,7 +231,7 @@ pub fn say(n: usize, a: u64, b: u64) {
             segment_of_%_octet~ Begin_% Continue_% End_% ,_%_octet~ \
             ,_window_Prohibited ,_window_Every4 ,_window_Every8 ,_window_Every16 ,_window_Last ,_window_Exceptions ,_states_% \
             ,_new ,_repeat :_refused_% :_refused_%/% _ :_taken :_fails_the_reception,_status ,_%_octet~_so_far ,_%_of_%_octets \
-            ;_octets ;_response:_transaction_%,_status ,_map_of_%,_missing ,_supported _compression _encryption _window _CRC \
+            ;_octets ;_response:_transaction_%,_status ,_map_of_% ,_missing_%,_first_% : ,_supported _compression _encryption _window _CRC \
             ;_hands_over_a_record_of_%_octet~ ;_now_ section_%, _peer_and_transaction_unknown rebuilt,_a_record_of_%_octet~ \
             not_rebuilt,_ a_record_of_%_octet~_was_handed_over ,_and_the_reception_failed_after_it,_status \
             ,_and_a_line_was_refused_for_its_form ,_%_call~_refused _at_line_% no_record:_state_ ,_deadline_none ,_deadline_% \

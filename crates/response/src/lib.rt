@@ -2,16 +2,20 @@
 use tsar::Error;
 use tsar::ErrorField;
 use tsar::Validated;
+use words::Found;
 use words::Words;
 ghost use mathlib.Core.Path.{_≡_};
 ghost use mathlib.Core.Bool.{_&&_};
-ghost use Prim.Native.Nat.{suc};
+ghost use Prim.Native.Nat.{suc, _≤_};
 ghost use Rattle.words.specs.Marks.{marked};
 ghost use Rattle.tsar.specs.Rows.{refusal};
 ghost use Rattle.tsar.specs.Numbers.{validatedBy};
-ghost use Rattle.response.specs.Responses.{statusNumber, mapOf, mapLengthRefused, mapBy, newMap, entryAt, hasSupport, responseRows};
+ghost use Rattle.response.specs.Responses.{statusNumber, mapLengthRefused, figuresOf, firstOr256, builtOf, mapBy, newMap, entryAt, hasSupport, responseRows};
 
 const MAX_MAP_BITS: u16 = 256;
+
+// What stands for the first missing entry where none is missing.
+const NONE_MISSING: u16 = 256;
 
 // The lowest version, and the lowest with a support list.
 const PV1: u8 = 1;
@@ -46,6 +50,18 @@ pub struct AcknowledgmentMap {
     pub bit_count: u16,
 }
 
+// How many entries of a map are missing, and the first of them: 256 where there is none.
+pub struct Missing {
+    pub count: u16,
+    pub first: u16,
+}
+
+// A map with the figures of its missing entries: what every builder of a map gives.
+pub struct BuiltMap {
+    pub map: AcknowledgmentMap,
+    pub missing: Missing,
+}
+
 // What a map says of a sequence number: the source's Option<bool>.
 pub enum Acknowledged {
     Unreported,
@@ -75,7 +91,7 @@ pub struct Response {
 
 // What AcknowledgmentMap::try_new gives.
 pub enum MapAnswer {
-    Map(AcknowledgmentMap),
+    Map(BuiltMap),
     Refused(Error),
 }
 
@@ -101,20 +117,45 @@ pub fn status_number(status: Status) -> u8
     }
 }
 
-// The map of the first bit_count marks: what every map is built by.
-fn first_entries(received: Words, bit_count: u16) -> AcknowledgmentMap
-    ensures { λ r. ⌜ r ≡ mapOf (marked received) «bit_count» ⌝ }
+// The first of the missing entries: 256 where there is none.
+fn first_of(found: Found) -> u16
+    ensures { λ r. ⌜ r ≡ firstOr256 found ⌝ }
 {
-    let kept = received.first(bit_count);
-    AcknowledgmentMap {
-        received: kept,
-        bit_count,
+    match found {
+        Found::Nothing => NONE_MISSING,
+        Found::At(s) => s as u16,
     }
 }
 
+// The figures of a map: those of its entries that are not marked.
+fn figures(map: AcknowledgmentMap) -> Missing
+    requires { ⌜ map .«bit_count» ≤ 256 ⌝ }
+    ensures { λ r. ⌜ r ≡ figuresOf map ⌝ }
+{
+    let marks = map.received;
+    let missing = Words::below(map.bit_count).minus(marks);
+    let count = missing.ones();
+    let first = first_of(missing.lowest());
+    Missing { count, first }
+}
+
+// The map of the first bit_count marks, with its figures: every map is built by this, but one that is read from octets.
+fn first_entries(received: Words, bit_count: u16) -> BuiltMap
+    requires { ⌜ «bit_count» ≤ 256 ⌝ }
+    ensures { λ r. ⌜ r ≡ builtOf (marked received) «bit_count» ⌝ }
+{
+    let kept = received.first(bit_count);
+    let map = AcknowledgmentMap {
+        received: kept,
+        bit_count,
+    };
+    let missing = figures(map);
+    BuiltMap { map, missing }
+}
+
 // The map of entries 0 to last.
-pub fn map_of(received: Words, last: u8) -> AcknowledgmentMap
-    ensures { λ r. ⌜ r ≡ mapOf (marked received) (suc last) ⌝ }
+pub fn map_of(received: Words, last: u8) -> BuiltMap
+    ensures { λ r. ⌜ r ≡ builtOf (marked received) (suc last) ⌝ }
 {
     first_entries(received, last as u16 + 1)
 }

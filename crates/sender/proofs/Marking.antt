@@ -14,7 +14,8 @@ use Rattle.words.specs.declared.Words.{Words}
 use Rattle.words.specs.declared.Found.{Found}
 use Rattle.words.specs.declared.Found.the-variants as found
 use Rattle.response.specs.declared.Acknowledged.the-variants as entry
-use Rattle.sender.specs.Steps.{retryBy, isReceived}
+use Rattle.response.specs.Responses.{isReceived}
+use Rattle.sender.specs.Steps.{retryBy}
 
 -- ---- words whose marks are known
 

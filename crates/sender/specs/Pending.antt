@@ -11,14 +11,14 @@ use Rattle.words.specs.Search.{allBelow-true, allBelow-false, allBelow-all, low
 use Rattle.words.specs.Laws.{marked-wordsOf, marked-none}
 use Rattle.words.specs.declared.Words.{Words}
 use Rattle.words.specs.declared.Found.the-variants as found
-use Rattle.response.specs.Responses.{entryAt}
+use Rattle.response.specs.Responses.{entryAt, isReceived}
 use Rattle.response.specs.declared.Acknowledged.the-variants as entry
 use Rattle.response.specs.declared.AcknowledgmentMap.{AcknowledgmentMap}
 use Rattle.sender.specs.declared.Current.{Current}
 use Rattle.sender.specs.declared.Current.the-variants as current
 use Rattle.sender.specs.declared.Progress.{Progress}
 use Rattle.sender.specs.Record.{needs, hasPending, nextPending, submissionBelow, markPast}
-use Rattle.sender.specs.Steps.{withLast, orLast, unreceived, again, retryBy, isReceived, markedRetry, markedReceived, resent, lastIf}
+use Rattle.sender.specs.Steps.{withLast, orLast, unreceived, again, retryBy, markedRetry, markedReceived, resent, lastIf}
 use Rattle.sender.specs.Calls.{acknowledgesUnsubmitted}
 
 -- ---- tests

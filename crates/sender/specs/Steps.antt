@@ -10,7 +10,7 @@ use Rattle.words.specs.declared.Found.{Found}
 use Rattle.words.specs.declared.Found.the-variants as found
 use Rattle.tsar.specs.Kinds.{prohibited}
 use Rattle.tsar.specs.declared.AcknowledgmentWindow.{AcknowledgmentWindow}
-use Rattle.response.specs.Responses.{statusNumber, entryAt}
+use Rattle.response.specs.Responses.{statusNumber, entryAt, isReceived}
 use Rattle.response.specs.declared.Acknowledged.{Acknowledged}
 use Rattle.response.specs.declared.Acknowledged.the-variants as entry
 use Rattle.response.specs.declared.AcknowledgmentMap.{AcknowledgmentMap}
@@ -213,11 +213,6 @@ abbrev pub retryBy : Acknowledged → Bool → Bool → Bool
 retryBy entry.Received timeout old = false
 retryBy entry.Missing timeout old = true
 retryBy entry.Unreported timeout old = timeout || old
-
-abbrev pub isReceived : Acknowledged → Bool
-isReceived entry.Received = true
-isReceived entry.Missing = false
-isReceived entry.Unreported = false
 
 abbrev pub markedRetry : ℕ → Words → Words → AcknowledgmentMap → Bool → Words
 markedRetry n submitted retry m timeout =

@@ -11,8 +11,8 @@ use lib.ListN.{length, getD, take, drop, length-append, List·getD-append}
 use lib.Seq.{take-length, take-append-seam, take-append-le, take-append-add, getD-append-seam}
 use Rattle.link.specs.declared.MobileIdentity.{MobileIdentity}
 use Rattle.link.specs.declared.HigherLayerProtocol.{HigherLayerProtocol}
-use Rattle.response.specs.declared.Response.{Response}
 use Rattle.receiver.specs.declared.Receiver.{Receiver}
+use Rattle.receiver.specs.declared.Reported.{Reported}
 use Rattle.receiver.specs.Record.{taking}
 use Rattle.receiver.specs.Answers.{Answer, refused, answered, Step}
 use Rattle.codec_c.specs.Codes.{codeOf}

@@ -10,7 +10,7 @@ use lib.ListN.{length}
 use lib.Seq.{sets}
 use Rattle.tsar.specs.Rows.{Refusal, refusal}
 use Rattle.link.specs.declared.MobileIdentity.{MobileIdentity}
-use Rattle.response.specs.declared.Response.{Response}
+use Rattle.receiver.specs.declared.Reported.{Reported}
 use Rattle.codec_c.specs.Codes.{short, misspelled, unnamed, unlessRefused}
 use Rattle.image.specs.Numbers.{spell}
 use Rattle.image.specs.Cases.{protocolOf}
@@ -42,11 +42,11 @@ pub record Call : Type 0 where
 abbrev pub call : ℕ → List ℕ → List ℕ → List ℕ → List ℕ → Call
 call n image store output answer = record { code = n; image = image; store = store; output = output; answer = answer }
 
--- a record is 3,930 octets and an answer 59, and protocols are 0 to 2
+-- a record is 3,930 octets and an answer 63, and protocols are 0 to 2
 abbrev pub trainTests : Asked → List (Bool × Refusal)
 trainTests a =
     (ltb (length (a .image)) 3930, short)
-    ∷ (ltb (length (a .answer)) 59, short)
+    ∷ (ltb (length (a .answer)) 63, short)
     ∷ (not (imageOk (a .image)), misspelled)
     ∷ (ltb 2 (a .protocol), unnamed)
     ∷ []
@@ -58,7 +58,7 @@ trainAsked a =
     (startOf (recordOf (a .image)) (a .store) (a .output))
 
 -- TRAIN: how many segments were received, and the reception of the last
-unfoldable pub trainImage : ℕ → Option Response → Option ℕ → List ℕ
+unfoldable pub trainImage : ℕ → Option Reported → Option ℕ → List ℕ
 trainImage n response message = spell 8 n ++ receptionImage response message
 
 -- a train that is done or stopped: record and answer are written either way

@@ -20,8 +20,8 @@ use Rattle.tsar.specs.declared.decode.DecodeAnswer.{DecodeAnswer}
 use Rattle.tsar.specs.declared.decode.DecodeAnswer.the-variants as read
 use Rattle.link.specs.declared.MobileIdentity.{MobileIdentity}
 use Rattle.link.specs.declared.HigherLayerProtocol.{HigherLayerProtocol}
-use Rattle.response.specs.declared.Response.{Response}
 use Rattle.receiver.specs.declared.Receiver.{Receiver}
+use Rattle.receiver.specs.declared.Reported.{Reported}
 use Rattle.receiver.specs.Answers.{Answer, refused, answered, Step, refuses}
 use Rattle.receiver.specs.Receive.{receiveOf}
 use Rattle.codec_c.specs.Codes.{codeOf, unlessRefused}
@@ -124,7 +124,7 @@ train-stops go t s whole n k p e q =
     ∙ ap (λ (a : Answer). after go t a (s .receiver) (s .store) (s .output)) (sym e) ∙ p
 
 -- one that is answered leaves the train this way, whether it then stops or goes on
-module _ (go : Train → Train) (t : Train) (s : Step) (whole : Train) (x : Option Response) (m : Option ℕ) (p : after go t (s .answer) (s .receiver) (s .store) (s .output) ≡ whole) (e : s .answer ≡ answered x m) where
+module _ (go : Train → Train) (t : Train) (s : Step) (whole : Train) (x : Option Reported) (m : Option ℕ) (p : after go t (s .answer) (s .receiver) (s .store) (s .output) ≡ whole) (e : s .answer ≡ answered x m) where
   pub answered-next : cond (stops x m (s .receiver)) (train 0 (s .receiver) (s .store) (s .output) (t .received + 1) x m) (go (train 0 (s .receiver) (s .store) (s .output) (t .received + 1) x m)) ≡ whole
   answered-next = ap (λ (a : Answer). after go t a (s .receiver) (s .store) (s .output)) (sym e) ∙ p
 
@@ -143,7 +143,7 @@ module _ (go : Train → Train) (t : Train) (s : Step) (whole : Train) (x : Opti
 -- ---- the call
 
 -- TRAIN, written in two parts
-pub train-put : (l x y : List ℕ) (n : ℕ) (response : Option Response) (message : Option ℕ) → x ≡ sets l 0 (spell 8 n) → y ≡ sets x 8 (receptionImage response message)
+pub train-put : (l x y : List ℕ) (n : ℕ) (response : Option Reported) (message : Option ℕ) → x ≡ sets l 0 (spell 8 n) → y ≡ sets x 8 (receptionImage response message)
     → y ≡ sets l 0 (trainImage n response message)
 unfolding trainImage
 train-put l x y n response message p q = put-next l 0 (spell 8 n) (receptionImage response message) x y 8 8 p (length-spell 8 n) refl q

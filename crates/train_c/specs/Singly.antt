@@ -9,8 +9,8 @@ use lib.ListN.{length, getD, take, drop}
 use Rattle.tsar.specs.Rows.{Refusal}
 use Rattle.link.specs.declared.MobileIdentity.{MobileIdentity}
 use Rattle.link.specs.declared.HigherLayerProtocol.{HigherLayerProtocol}
-use Rattle.response.specs.declared.Response.{Response}
 use Rattle.receiver.specs.declared.Receiver.{Receiver}
+use Rattle.receiver.specs.declared.Reported.{Reported}
 use Rattle.receiver.specs.Record.{taking}
 use Rattle.receiver.specs.Answers.{refused, answered, Step}
 use Rattle.codec_c.specs.Codes.{codeOf}
@@ -47,7 +47,7 @@ pub data Ends (k : ℕ) (r : Receiver) (store output : List ℕ) (steps : List S
   all : AllEmpty steps
       → t ≡ train 0 (lastOf r (λ s. s .receiver) steps) (lastOf store (λ s. s .store) steps) (lastOf output (λ s. s .output) steps) (k + length steps) none none
       → Ends k r store output steps t
-  behind : (before : List Step) (s : Step) (rest : List Step) (x : Option Response) (m : Option ℕ) → steps ≡ before ++ s ∷ rest → AllEmpty before
+  behind : (before : List Step) (s : Step) (rest : List Step) (x : Option Reported) (m : Option ℕ) → steps ≡ before ++ s ∷ rest → AllEmpty before
       → s .answer ≡ answered x m → (Empty s → ⊥) → t ≡ train 0 (s .receiver) (s .store) (s .output) (k + (length before + 1)) x m
       → Ends k r store output steps t
   at : (before : List Step) (s : Step) (rest : List Step) (n : Refusal) → steps ≡ before ++ s ∷ rest → AllEmpty before → s .answer ≡ refused n

@@ -9,8 +9,8 @@ use Rattle.tsar.specs.Layout.{WholeSegment}
 use Rattle.tsar.specs.Reading.{Decoded, decoded, refused as unread, segmentOf as decodeOf}
 use Rattle.link.specs.declared.MobileIdentity.{MobileIdentity}
 use Rattle.link.specs.declared.HigherLayerProtocol.{HigherLayerProtocol}
-use Rattle.response.specs.declared.Response.{Response}
 use Rattle.receiver.specs.declared.Receiver.{Receiver}
+use Rattle.receiver.specs.declared.Reported.{Reported}
 use Rattle.receiver.specs.Record.{taking}
 use Rattle.receiver.specs.Answers.{Answer, refused, answered, Step, refuses}
 use Rattle.receiver.specs.Receive.{Arrival, receiveOf}
@@ -32,10 +32,10 @@ pub record Train : Type 0 where
   pub store : List ℕ
   pub output : List ℕ
   pub received : ℕ
-  pub response : Option Response
+  pub response : Option Reported
   pub message : Option ℕ
 
-abbrev pub train : ℕ → Receiver → List ℕ → List ℕ → ℕ → Option Response → Option ℕ → Train
+abbrev pub train : ℕ → Receiver → List ℕ → List ℕ → ℕ → Option Reported → Option ℕ → Train
 train code r store output n response message =
     record { code = code; receiver = r; store = store; output = output; received = n; response = response; message = message }
 
@@ -44,13 +44,13 @@ abbrev pub startOf : Receiver → List ℕ → List ℕ → Train
 startOf r store output = train 0 r store output 0 none none
 
 -- whether a reception carries anything: a response, or a message
-abbrev pub carries : Option Response → Option ℕ → Bool
+abbrev pub carries : Option Reported → Option ℕ → Bool
 carries none none = false
 carries none (some n) = true
 carries (some x) message = true
 
 -- whether a reception ends the train: it carries something, or it leaves a receiver that takes no segments
-abbrev pub stops : Option Response → Option ℕ → Receiver → Bool
+abbrev pub stops : Option Reported → Option ℕ → Receiver → Bool
 stops response message r = carries response message || not (taking (r .progress .state))
 
 -- what a segment's step makes of it: a refusal ends it, and so does a reception that stops it; else it goes on

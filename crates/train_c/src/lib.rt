@@ -19,6 +19,7 @@ use receiver::states::either;
 use receiver::states::smaller;
 use receiver::states::taking;
 use receiver::states::wide;
+use receiver_answers::RECEPTION_OCTETS;
 use receiver_answers::error_code;
 use receiver_answers::put_received;
 use receiver_image::RECEIVER_OCTETS;
@@ -37,10 +38,10 @@ ghost use Rattle.receiver.specs.Says.{replySays, messageSays};
 ghost use Rattle.train_c.specs.Walk.{carries as carriesOf, segmentsOf, startOf, trainOf, walked};
 ghost use Rattle.train_c.specs.Calls.{call, trainImage, Met};
 
-// TRAIN, and its number of segments.
-const TRAIN_OCTETS: usize = 59;
-
+// TRAIN: its number of segments, and RECEPTION.
 const COUNT_OCTETS: usize = 8;
+
+const TRAIN_OCTETS: usize = COUNT_OCTETS + RECEPTION_OCTETS;
 
 // Protocols are 0 to 2.
 const LAST_PROTOCOL: u8 = 2;
@@ -186,7 +187,7 @@ fn walk(
 
 // TRAIN at the front of octets: how many segments were received, and what the last of them was answered.
 fn put_train(answer: &mut [u8], received: u64, reception: Reception)
-    requires { ⌜ 59 ≤ length (now answer) ⌝ }
+    requires { ⌜ 63 ≤ length (now answer) ⌝ }
     ensures { λ _. ⌜ now (answer .exit) ≡ sets (now (answer .entry)) 0 (trainImage received (replySays (reception .response)) (messageSays (reception .message))) ⌝ }
 {
     put64(answer, 0, received);

@@ -1,15 +1,17 @@
--- Single bits of a number: what an or, an and, a complement, leading zeros and trailing zeros say of them. Assumes nothing.
+-- Single bits of a number: what an or, an and, a complement, leading zeros, trailing zeros and ones say of them. Assumes nothing.
 use mathlib.Core.Path.{_≡_, refl, sym, ap, _∙_, subst}
-use mathlib.Core.Bool.{false, not, _&&_, _||_}
+use mathlib.Core.Bool.{false, cond, not, _&&_, _||_}
 use Prim.Native.Nat.{ℕ, zero, suc, _+_, _-_, _/_, _%_, _^_, _≤_, _<_}
-use native.Mathlib.Nat.{div-eq-of-lt-le, mod-lt, pow-succ', one-mul, le-trans, le-of-eq, div-one, div-div-eq-div-mul}
+use native.Mathlib.Nat.{div-eq-of-lt-le, mod-lt, pow-succ', one-mul, le-trans, le-of-eq, div-one, mod-one, add-comm, div-div-eq-div-mul}
+use native.Mathlib.Numerals.{one-add}
 use native.Mathlib.Omega.{arith}
 use lib.Dec.{eqb, lit<}
 use lib.Bits.{bitAnd, bitOr, or-shr, or-mod, and-shr, and-mod, or-add-and, and-le-l, and-le-r}
-use lib.Count.{leadingZeros, leading-top, trailingZeros, under}
-use Rattle.words.specs.Marks.{bit}
+use lib.Count.{leadingZeros, leading-top, trailingZeros, under, ones, ones-cat}
+use lib.Pow.{pow-pos, mod-pow-add}
+use Rattle.words.specs.Marks.{bit, countBelow}
 use Rattle.words.specs.Search.{IsHighest, IsLowest}
-use Rattle.words.specs.Sums.{bit-past}
+use Rattle.words.specs.Sums.{bit-past, bit-cond}
 
 -- ---- a bit of two numbers
 
@@ -108,3 +110,20 @@ bottom-bit (suc k) w p h = go (w % 2) refl (λ q. bottom-bit k (w / 2) q (omega 
     go (suc d) e r =
         let o : w % 2 ≡ 1 = omega arith in
         record { within = omega arith; holds = first 1 o; below = λ c l. absurd (omega arith) }
+
+-- ---- how many bits are set
+
+one-bit : (x : ℕ) → x < 2 → ones x ≡ x
+unfolding ones
+one-bit zero h = refl
+one-bit (suc zero) h = refl
+one-bit (suc (suc x)) h = absurd (omega arith)
+
+-- the bits below k, counted, are the ones of what stands below 2 ^ k
+pub ones-below : (k w : ℕ) → ones (w % 2 ^ k) ≡ countBelow k (bit w)
+unfolding countBelow ones
+ones-below zero w = ap ones (mod-one w)
+ones-below (suc k) w =
+    ap ones (ap (λ (n : ℕ). w % 2 ^ n) (sym (one-add k)) ∙ mod-pow-add w 1 k) ∙ ones-cat k (w / 2 ^ k % 2) (w % 2 ^ k) (mod-lt w (pow-pos k))
+    ∙ ap (λ (n : ℕ). n + ones (w % 2 ^ k)) (one-bit (w / 2 ^ k % 2) (digit w k) ∙ bit-cond w k)
+    ∙ ap (λ (n : ℕ). cond (bit w k) 1 0 + n) (ones-below k w) ∙ add-comm (cond (bit w k) 1 0) (countBelow k (bit w))

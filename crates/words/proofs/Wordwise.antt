@@ -1,5 +1,5 @@
 -- Four words at a time: an operation on each pair of words is one on each pair of marks, and what a word that is 0 and one that is not say of
--- the marks, from the highest down and from the lowest up. Assumes nothing.
+-- the marks, from the highest down and from the lowest up; and how many marks there are. Assumes nothing.
 use mathlib.Core.Path.{_≡_, refl, sym, ap, _∙_}
 use mathlib.Core.Bool.{Bool, true, false, not, _&&_, _||_}
 use mathlib.Core.Logic.{⊎-elim}
@@ -10,8 +10,9 @@ use lib.Dec.{eqb}
 use lib.ListN.{getD}
 use lib.Bits.{bitAnd, bitOr, or-lt, and-lt, and-le-l}
 use native.Mathlib.Nat.{lt-of-le-of-lt}
-use Rattle.words.specs.Marks.{wordsList, bit, marked, wordsOf, noMarks, allBelow, highestOf, lowestOf}
+use Rattle.words.specs.Marks.{wordsList, bit, marked, wordsOf, noMarks, allBelow, countBelow, highestOf, lowestOf}
 use Rattle.words.specs.Search.{lt-or-le, IsHighest, IsLowest, highest-at, lowest-at, allBelow-true, allBelow-all}
+use Rattle.words.specs.Counts.{count-zero, count-ext, count-add}
 use Rattle.words.specs.Laws.{Fit, by-four, marked-word, marked-zero, marked-none, wordsOf-is, none-ext}
 use Rattle.words.specs.declared.Words.{Words}
 use Rattle.words.specs.declared.Found.the-variants.{At}
@@ -129,3 +130,20 @@ lowest-word w k t l h r =
         let e : j ≡ 64 * k + (j - 64 * k) = omega arith in
         ap (marked w) e ∙ marked-word w k (j - 64 * k) (omega (arith, h .within)) ∙ h .below (j - 64 * k) (omega arith))
         (lt-or-le j (64 * k))
+
+-- ---- how many marks
+
+-- those up to word k, and those of word k
+count-word : (w : Words) (k : ℕ) → countBelow (64 * k + 64) (marked w) ≡ countBelow (64 * k) (marked w) + countBelow 64 (bit (getD (wordsList w) k 0))
+count-word w k =
+    count-add (64 * k) 64 (marked w)
+    ∙ ap (λ (n : ℕ). countBelow (64 * k) (marked w) + n) (count-ext 64 (λ j. marked w (64 * k + j)) (bit (getD (wordsList w) k 0)) (marked-word w k))
+
+-- the four words' bits are all the marks
+pub count-words : (w : Words) → countBelow 64 (bit (w .a)) + countBelow 64 (bit (w .b)) + (countBelow 64 (bit (w .c)) + countBelow 64 (bit (w .d))) ≡ countBelow 256 (marked w)
+count-words w =
+    let a : countBelow 64 (marked w) ≡ countBelow 0 (marked w) + countBelow 64 (bit (w .a)) = count-word w 0 in
+    let b : countBelow 128 (marked w) ≡ countBelow 64 (marked w) + countBelow 64 (bit (w .b)) = count-word w 1 in
+    let c : countBelow 192 (marked w) ≡ countBelow 128 (marked w) + countBelow 64 (bit (w .c)) = count-word w 2 in
+    let d : countBelow 256 (marked w) ≡ countBelow 192 (marked w) + countBelow 64 (bit (w .d)) = count-word w 3 in
+    omega (arith, count-zero (marked w))

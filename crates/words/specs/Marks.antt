@@ -1,5 +1,5 @@
 -- What the four words mean: 256 marks, mark i being bit i % 64 of word i / 64, and what is asked of marks. A set of marks is a predicate
--- on numbers: `marked w` reads the words so, and `wordsOf f` writes them. The laws are in Search, Sums and Laws.
+-- on numbers: `marked w` reads the words so, and `wordsOf f` writes them. The laws are in Search, Counts, Sums and Laws.
 use Prim.Native.Nat.{ℕ, zero, suc, _+_, _/_, _%_, _^_}
 use mathlib.Core.Bool.{Bool, true, cond, _&&_}
 use mathlib.Core.List.{List, [], _∷_}
@@ -42,6 +42,11 @@ noMarks = record { a = 0; b = 0; c = 0; d = 0 }
 unfoldable pub allBelow : ℕ → (ℕ → Bool) → Bool
 allBelow zero f = true
 allBelow (suc n) f = allBelow n f && f n
+
+-- how many numbers below n a predicate holds at
+unfoldable pub countBelow : ℕ → (ℕ → Bool) → ℕ
+countBelow zero f = 0
+countBelow (suc n) f = countBelow n f + cond (f n) 1 0
 
 -- the highest number below n at which a predicate holds
 unfoldable pub highestOf : (ℕ → Bool) → ℕ → Found

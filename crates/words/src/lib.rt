@@ -4,7 +4,7 @@ ghost use mathlib.Core.Bool.{_||_, _&&_, not};
 ghost use Prim.Native.Nat.{suc, _<_};
 ghost use lib.Dec.{eqb, ltb};
 ghost use lib.ListN.{getD};
-ghost use Rattle.words.specs.Marks.{bit, wordsList, marked, wordFrom, wordsOf, noMarks, highestOf, lowestOf, allBelow};
+ghost use Rattle.words.specs.Marks.{bit, wordsList, marked, wordFrom, wordsOf, noMarks, highestOf, lowestOf, allBelow, countBelow};
 ghost use Rattle.words.specs.Search.{IsHighest, IsLowest};
 
 pub struct Words {
@@ -62,6 +62,13 @@ fn bottom(word: u64) -> u8
     ensures { λ r. ⌜ IsLowest (bit word) 64 r ⌝ }
 {
     u64::trailing_zeros(word) as u8
+}
+
+// How many bits of a word are set.
+fn ones_in(word: u64) -> u16
+    ensures { λ r. ⌜ r ≡ countBelow 64 (bit word) ⌝ }
+{
+    u64::count_ones(word) as u16
 }
 
 impl Words {
@@ -236,5 +243,14 @@ impl Words {
             return Found::At(192 + bottom(self.d));
         }
         Found::Nothing
+    }
+
+    // How many marks are set.
+    pub fn ones(self) -> u16
+        ensures { λ r. ⌜ r ≡ countBelow 256 (marked self) ⌝ }
+    {
+        let low = ones_in(self.a) + ones_in(self.b);
+        let high = ones_in(self.c) + ones_in(self.d);
+        low + high
     }
 }

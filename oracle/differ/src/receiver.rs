@@ -3,8 +3,11 @@
 use crate::made_up;
 use crate::spell::{self, FILLING, Terms, filled};
 use crate::spells;
-use crate::table::{Area, FULL_MAP, FULL_TRAIN, LATE_RECEPTION, LONG_STORE, Table, WIPED};
-use crate::watch::{Case, Checked, Checker, given, same, same_given};
+use crate::table::{
+    Area, BEGIN_MISSING, FULL_MAP, FULL_MAP_RECEIVED, FULL_TRAIN, LATE_RECEPTION, LONG_MAP_GAPS,
+    LONG_STORE, NONE_MISSING, Table, WIPED, WORD_EDGES,
+};
+use crate::watch::{Case, Checked, Checker, given, same, same_figures, same_given};
 use bts136::l3::broadcast::ProtocolVersion;
 use bts136::l3::tsar::decode_segment;
 use bts136::link::tsar::{Receiver, Reception};
@@ -30,6 +33,8 @@ const MADE_UP: &str = "receivers made up";
 
 const CLOSED: std::ops::RangeInclusive<u8> = 3..=5;
 const SLOT_OCTETS: usize = 255;
+/// Where REPLY has the figures of the response's map: how many entries are missing, and the first of them.
+const FIGURES: usize = layout::reply::MISSING;
 const LAST_READING: u64 = u64::MAX - 300_000;
 
 /// The port's receiver, and what its buffers should hold.
@@ -147,19 +152,28 @@ fn call(case: &Case, lent: Lent, wrong: &Wrong) -> u32 {
     }
 }
 
-/// RECEPTION of what the recorder wrote of a reception, or REPLY of a response alone.
+/// RECEPTION of what the recorder wrote of a reception, or REPLY of a response alone. The recorder has no figures.
 fn answered(op: u8, answer: &[u8]) -> Vec<u8> {
     let mut out = Vec::new();
     if op == CANCEL {
         return out;
     }
     let mut take = Take(&answer[1..]);
-    out.put_all(take.octets(5));
-    for _ in 0..4 {
-        let octets = take.octets(8).try_into().expect("eight octets");
+    let front = take.octets(5);
+    let map = take.octets(32);
+    out.put_all(front);
+    for octets in map.chunks(8) {
+        let octets = octets.try_into().expect("eight octets");
         out.put64(u64::from_le_bytes(octets));
     }
     out.put_all(take.octets(5));
+    if front[0] == 1 {
+        let entries = 0..Take(&front[3..]).take16();
+        let received = |entry: usize| map[entry / 8] >> (entry % 8) & 1 == 1;
+        spell::put_figures(&mut out, entries.map(received));
+    } else {
+        out.put_all(&[0; layout::REPLY - FIGURES]);
+    }
     if op == RECEIVE {
         out.put_all(take.octets(1));
         out.put64(take.take32() as u64);
@@ -168,13 +182,47 @@ fn answered(op: u8, answer: &[u8]) -> Vec<u8> {
 }
 
 fn reception(out: &mut Vec<u8>, reception: Option<&Reception>) {
-    spell::put_response(
+    spell::put_reply(
         out,
         reception.and_then(|reception| reception.response.as_ref()),
     );
     let message = reception.and_then(|reception| reception.message.as_ref());
     out.put8(u8::from(message.is_some()));
     out.put64(message.map_or(0, Vec::len) as u64);
+}
+
+/// What a run has to see of the maps of responses.
+fn seen(reply: &[u8], area: &mut Area) {
+    let Some([1, _, _, front @ ..]) = reply.get(..layout::REPLY) else {
+        return;
+    };
+    let entries = Take(front).take16();
+    let mut figures = Take(&reply[FIGURES..]);
+    let (missing, first) = (figures.take16(), figures.take16());
+    let mut see = |seen: bool, name| {
+        if seen {
+            area.input(name);
+        }
+    };
+    see(entries == 256, FULL_MAP);
+    see(missing == 0, NONE_MISSING);
+    see(entries == 256 && missing == 0, FULL_MAP_RECEIVED);
+    see(entries >= 255 && missing > 0, LONG_MAP_GAPS);
+    see(first == 0, BEGIN_MISSING);
+    for (edge, name) in WORD_EDGES {
+        see(first == edge, name);
+    }
+}
+
+/// Compares an answer that has REPLY at a place: what comes before the figures, then these, then all of it.
+fn same_answer(answer: &[u8], expected: &[u8], reply: usize) -> Checked {
+    let figures = reply + FIGURES..reply + layout::REPLY;
+    let front = figures.start.min(answer.len());
+    same("answer", &answer[..front], &expected[..front])?;
+    if let Some(found) = answer.get(figures.clone()) {
+        same_figures(found, &expected[figures])?;
+    }
+    same("answer", answer, expected)
 }
 
 /// A receiver that takes no segments.
@@ -367,15 +415,17 @@ impl Port {
         };
         if let Some(message) = message {
             self.hand_over(message, area);
-        } else if case.op == RECEIVE && expected.get(42) == Some(&1) {
+        } else if case.op == RECEIVE && expected.get(layout::REPLY) == Some(&1) {
             self.hand_over(&held_message(original), area);
         }
-        let response = if case.op == TRAIN { 8 } else { 0 };
-        if expected.get(response + 3..response + 5) == Some(&[1, 0]) {
-            area.input(FULL_MAP);
-        }
+        let reply = if case.op == TRAIN {
+            layout::train::RECEPTION
+        } else {
+            0
+        };
+        seen(expected.get(reply..).unwrap_or(&[]), area);
         expected.resize(answer.len(), FILLING);
-        same("answer", &answer, &expected)?;
+        same_answer(&answer, &expected, reply)?;
         if reading(case).is_some_and(|reading| reading.abs_diff(LAST_READING) <= 3) {
             area.input(LATE_RECEPTION);
         }

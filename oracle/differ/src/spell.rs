@@ -61,21 +61,36 @@ pub fn put_words(out: &mut Vec<u8>, marks: impl Iterator<Item = bool>) {
     }
 }
 
-pub fn put_response(out: &mut Vec<u8>, response: Option<&Response>) {
-    out.put8(u8::from(response.is_some()));
+/// What stands for the first missing entry where none is missing.
+const NONE_MISSING: usize = 256;
+
+/// How many of a map's entries are missing, and the first of them, 256 if there is none. The original has no such figures: they are
+/// counted here, entry by entry.
+pub fn put_figures(out: &mut Vec<u8>, entries: impl Iterator<Item = bool>) {
+    let (mut missing, mut first) = (0, NONE_MISSING);
+    for (entry, received) in entries.enumerate() {
+        if !received {
+            missing += 1;
+            first = first.min(entry);
+        }
+    }
+    out.put16(missing);
+    out.put16(first);
+}
+
+/// REPLY.
+pub fn put_reply(out: &mut Vec<u8>, response: Option<&Response>) {
     let Some(response) = response else {
-        out.put_all(&[0; layout::RESPONSE]);
+        out.put_all(&[0; layout::REPLY]);
         return;
     };
+    out.put8(1);
     out.put8(response.transaction_id);
     out.put8(response.status as u8);
     let map = &response.acknowledgments;
     out.put16(map.bit_count());
-    let entries = 0..map.bit_count();
-    put_words(
-        out,
-        entries.map(|index| map.received(index as u8) == Some(true)),
-    );
+    let entries = (0..map.bit_count()).map(|index| map.received(index as u8) == Some(true));
+    put_words(out, entries.clone());
     let support = response.optional_services_support;
     out.put8(u8::from(support.is_some()));
     let bits = support.map_or([false; 4], |support| {
@@ -87,6 +102,7 @@ pub fn put_response(out: &mut Vec<u8>, response: Option<&Response>) {
         ]
     });
     out.put_all(&bits.map(u8::from));
+    put_figures(out, entries);
 }
 
 fn put_origin(out: &mut Vec<u8>, origin: Origin) {

@@ -144,19 +144,43 @@ pub const FULL_TRAIN: &str = "256 segments of 255 octets handed over";
 pub const LATE_RECEPTION: &str = "readings within 3 of 2^64 - 1 - 300,000";
 pub const LATE_SUBMISSION: &str = "readings within 3 of 2^64 - 1 - 330,000";
 pub const FULL_MAP: &str = "maps of 256 entries";
+pub const FULL_MAP_RECEIVED: &str = "maps of 256 entries with none missing";
+pub const LONG_MAP_GAPS: &str = "maps of 255 or 256 entries with some missing";
+pub const NONE_MISSING: &str = "maps with none missing";
+pub const BEGIN_MISSING: &str = "maps with 0 the first missing";
 pub const LONG_STORE: &str = "calls on A5 stores with octets past 65,280";
 pub const WIPED: &str = "stores wiped";
 pub const FROZEN_SENDER: &str = "senders of frozen plans";
 pub const FULL_SENDER: &str = "senders of 256 segments";
 pub const PAST_MESSAGE: &str = "segments of made-up plans that would begin past the message";
 
-const INPUTS: [(&str, &str); 10] = [
+/// The last entry of a word and the first of the next: maps whose first missing entry they are.
+pub const WORD_EDGES: [(usize, &str); 6] = [
+    (63, "maps with 63 the first missing"),
+    (64, "maps with 64 the first missing"),
+    (127, "maps with 127 the first missing"),
+    (128, "maps with 128 the first missing"),
+    (191, "maps with 191 the first missing"),
+    (192, "maps with 192 the first missing"),
+];
+
+const INPUTS: [(&str, &str); 20] = [
     ("planner", PAST_MESSAGE),
     ("receiver", FULL_TRAIN),
     ("receiver", LATE_RECEPTION),
     ("receiver", FULL_MAP),
+    ("receiver", LONG_MAP_GAPS),
+    ("receiver", NONE_MISSING),
+    ("receiver", BEGIN_MISSING),
     ("receiver", LONG_STORE),
     ("receiver", WIPED),
+    ("train", FULL_MAP_RECEIVED),
+    ("train", WORD_EDGES[0].1),
+    ("train", WORD_EDGES[1].1),
+    ("train", WORD_EDGES[2].1),
+    ("train", WORD_EDGES[3].1),
+    ("train", WORD_EDGES[4].1),
+    ("train", WORD_EDGES[5].1),
     ("sender", LATE_SUBMISSION),
     ("sender", FULL_MAP),
     ("sender", FROZEN_SENDER),

@@ -1,6 +1,7 @@
 //! Lists of calls with whole trains in them.
 
 use crate::receiver::{TRAIN, Trains};
+use crate::table::WORD_EDGES;
 use bts136::l3::broadcast::ProtocolVersion;
 use bts136::l3::tsar::Segment;
 use record::fields::{put_peer, put_protocol};
@@ -20,6 +21,7 @@ pub fn make(record: &mut Record, count: usize) {
         list(record);
     }
     full(record);
+    edges(record);
 }
 
 /// A segment's octets. Data of more than 255 octets cannot be written: they are cut.
@@ -201,16 +203,21 @@ fn change_lengths(random: &mut Random, lengths: &mut Vec<u16>) {
     }
 }
 
+/// Opens a receiver of at most 65,280 octets.
+fn open_full(record: &mut Record) -> Option<Opening> {
+    let mut opening = any_opening(&mut record.random);
+    opening.maximum = 65_280;
+    let mut input = Vec::new();
+    opening.put(&mut input);
+    (record.call(OPEN, &input)[0] == DONE).then_some(opening)
+}
+
 /// 256 segments of 255 octets, from one call on and from two.
 fn full(record: &mut Record) {
     for (window, cut_at) in [(0, 256), (3, 256), (4, 100), (5, 255)] {
-        let mut opening = any_opening(&mut record.random);
-        opening.maximum = 65_280;
-        let mut input = Vec::new();
-        opening.put(&mut input);
-        if record.call(OPEN, &input)[0] != DONE {
+        let Some(opening) = open_full(record) else {
             continue;
-        }
+        };
         let transaction = opening.transaction;
         let mut parts = cut(&mut record.random, transaction, window, 256, 0);
         for part in &mut parts {
@@ -227,5 +234,26 @@ fn full(record: &mut Record) {
                 false,
             );
         }
+    }
+}
+
+/// The number of the window Last.
+const LAST: u8 = 4;
+
+/// 256 segments without one at a word's edge, so that the End's response and the timeout answer have it missing; then that one.
+fn edges(record: &mut Record) {
+    for (edge, _) in WORD_EDGES {
+        let Some(opening) = open_full(record) else {
+            continue;
+        };
+        let parts = cut(&mut record.random, opening.transaction, LAST, 256, 1);
+        let mut segments: Vec<Vec<u8>> = parts.iter().map(encoded).collect();
+        let missing = segments.remove(edge);
+        let (octets, lengths) = (segments.concat(), lengths(&segments));
+        train(record, &opening, opening.reading, &octets, &lengths);
+        let reading = opening.reading + REASSEMBLY_MS;
+        record.call(ADVANCE, &reading.to_be_bytes());
+        let length = missing.len() as u16;
+        train(record, &opening, reading, &missing, &[length]);
     }
 }

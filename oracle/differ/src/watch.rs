@@ -2,6 +2,7 @@
 
 use crate::table::Table;
 use record::list::{Player, Recorder, Watcher};
+use record::octets::Take;
 use record::random::Random;
 use std::cell::RefCell;
 use std::panic::{self, AssertUnwindSafe};
@@ -189,6 +190,22 @@ pub fn same(name: &str, found: &[u8], expected: &[u8]) -> Checked {
             expected.len()
         )),
     }
+}
+
+/// Says how the figures of a map differ from those that the driver has counted.
+pub fn same_figures(found: &[u8], counted: &[u8]) -> Checked {
+    if found == counted {
+        return Ok(());
+    }
+    let said = |octets: &[u8]| {
+        let mut take = Take(octets);
+        format!("{} missing, first {}", take.take16(), take.take16())
+    };
+    Err(format!(
+        "figures: {}; counted: {}",
+        said(found),
+        said(counted)
+    ))
 }
 
 /// Says how two given numbers differ.

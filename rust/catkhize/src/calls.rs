@@ -374,7 +374,7 @@ pub fn receiver_new(
     ))
 }
 
-/// Takes one decoded segment; the answer is RECEPTION.
+/// Takes one decoded segment; the answer is RECEPTION, which has the figures of its response's map.
 #[allow(clippy::too_many_arguments)]
 pub fn receiver_receive(
     record: &mut [u8],
@@ -410,7 +410,7 @@ pub fn receiver_receive(
     ))
 }
 
-/// Lets a receiver's time pass; the answer is REPLY.
+/// Lets a receiver's time pass; the answer is REPLY, which has the figures of its response's map.
 pub fn receiver_advance(
     record: &mut [u8],
     store: &mut [u8],
@@ -440,8 +440,8 @@ pub fn receiver_cancel(record: &mut [u8], store: &mut [u8], reading: u64) -> u32
 }
 
 /// Takes segments that stand one after another in `octets`; `lengths` has 16 bits for each. It stops behind a segment whose reception carries
-/// a response or a message or closes the receiver, with 0, and at the first that is refused. The answer is TRAIN; go on with the octets and
-/// lengths behind the segments that it counts.
+/// a response or a message or closes the receiver, with 0, and at the first that is refused. The answer is TRAIN, which has that reception as
+/// RECEPTION; go on with the octets and lengths behind the segments that it counts.
 #[allow(clippy::too_many_arguments)]
 pub fn receiver_train(
     record: &mut [u8],

@@ -12,10 +12,10 @@ pub const DECODED: usize = 31;
 pub const PART: usize = 31;
 /// A response.
 pub const RESPONSE: usize = 41;
-/// What receiving gives.
-pub const RECEPTION: usize = 51;
-/// What advancing a receiver gives.
-pub const REPLY: usize = 42;
+/// What receiving gives: REPLY, then the message.
+pub const RECEPTION: usize = reception::MESSAGE + 1 + 8;
+/// What advancing a receiver gives: a response, and the figures of its map.
+pub const REPLY: usize = reply::FIRST_MISSING + 2;
 /// What encoding gives.
 pub const WRITTEN: usize = 8;
 /// A receiver's record.
@@ -28,8 +28,8 @@ pub const SENDER: usize = 6130;
 pub const STATE: usize = 4;
 /// What a sender offers.
 pub const SUBMISSION: usize = 48;
-/// What receiving a train gives.
-pub const TRAIN: usize = 59;
+/// What receiving a train gives: the number of segments received, then RECEPTION.
+pub const TRAIN: usize = train::RECEPTION + RECEPTION;
 
 /// The octets of a receiver's store; those past them are never touched.
 pub const STORE: usize = 65_280;
@@ -38,6 +38,26 @@ pub const ENCODING: usize = 264;
 
 /// The first octet of a receiver's record, a plan and a sender's record.
 pub const LAYOUT_VERSION: u8 = 1;
+
+/// Where a REPLY has what stands behind its flag and its RESPONSE.
+pub mod reply {
+    /// How many entries of the response's map are missing, 16 bits.
+    pub const MISSING: usize = 1 + super::RESPONSE;
+    /// The first missing one, 16 bits: 256 if none is, 0 where there is no response.
+    pub const FIRST_MISSING: usize = MISSING + 2;
+}
+
+/// Where a RECEPTION has what stands behind its REPLY.
+pub mod reception {
+    /// A flag, then the number of octets handed over.
+    pub const MESSAGE: usize = super::REPLY;
+}
+
+/// Where a TRAIN has what stands behind its number of segments.
+pub mod train {
+    /// A RECEPTION.
+    pub const RECEPTION: usize = 8;
+}
 
 /// Where a receiver's record has what its accessors read.
 pub mod receiver {

@@ -1,7 +1,7 @@
 //! The TSAR core of the bench cell: segments, plans, receiver and sender, over the static library of the proved Rattle crates.
 //!
-//! The types have the names of the Rust that the core is a port of. A call that is refused gives a [`Refusal`] with document 01's number
-//! (docs/01-scope.md). No call panics, whatever it is given. [`calls`] has the entries as they are, on octets.
+//! The core is a port of a Rust program; types that it has too have its names. A call that is refused gives a [`Refusal`] with document
+//! 01's number (docs/01-scope.md). No call panics, whatever it is given. [`calls`] has the entries as they are, on octets.
 //!
 //! # Numbers that several calls take
 //!
@@ -56,8 +56,8 @@
 //!     let decoded = decode_segment(&output[..octets], 1)?;
 //!     let reception = receiver.receive(peer, protocol, &decoded, now)?;
 //!     rebuilt.extend_from_slice(reception.message.unwrap_or(&[]));
-//!     if let Some(response) = reception.response {
-//!         sender.receive_response(peer, protocol, &response, 0, now)?;
+//!     if let Some(reported) = reception.response {
+//!         sender.receive_response(peer, protocol, &reported.response, 0, now)?;
 //!     }
 //! }
 //! assert_eq!(rebuilt, message);
@@ -81,9 +81,9 @@ mod sender;
 
 pub use link::{HigherLayerProtocol, MobileIdentity};
 pub use plan::{MessagePlan, SegmentedMessage, plan_message};
-pub use receiver::{Receiver, ReceiverState, Reception, Train};
+pub use receiver::{Receiver, ReceiverState, Reception, Reported, Train};
 pub use refusal::{Given, Refusal};
-pub use response::{AcknowledgmentMap, OptionalServicesSupport, Response, Status};
+pub use response::{AcknowledgmentMap, Missing, OptionalServicesSupport, Response, Status};
 pub use segment::{
     AcknowledgmentWindow, Compression, CrcStatus, DecodedSegment, MessageCrc, OptionalServices,
     Segment, SegmentKind, decode_segment,

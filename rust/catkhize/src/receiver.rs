@@ -1,7 +1,7 @@
 use crate::octets::{Take, part};
 use crate::{
-    DecodedSegment, Given, HigherLayerProtocol, MobileIdentity, Refusal, Response, Status, calls,
-    layout,
+    DecodedSegment, Given, HigherLayerProtocol, Missing, MobileIdentity, Refusal, Response, Status,
+    calls, layout,
 };
 
 /// How a reception stands.
@@ -29,17 +29,63 @@ pub enum ReceiverState {
     Canceled,
 }
 
+/// A response, and beside it the figures of its map, as the receiver gives them. The response alone is sent: a peer is not told the figures.
+/// The map's entries go to the end where it is known, and else to the highest segment held (in a timeout answer one further): that none of them
+/// is missing does not say that the message is whole, [`Status::Received`] does.
+///
+/// ```
+/// use catkhize::*;
+/// let peer = MobileIdentity { kind: 0, width: 34, value: 1 };
+/// let protocol = HigherLayerProtocol::Segmented(0);
+/// let mut receiver = Receiver::try_new(peer, protocol, 0, 1, 100, 0)?;
+/// // The Begin asks for a response to every fourth segment.
+/// receiver.receive(peer, protocol, &decode_segment(&[0, 0, 1, b'a', 0x20, 0x08], 1)?, 0)?;
+/// let reception = receiver.receive(peer, protocol, &decode_segment(&[8, 3, 1, b'd'], 1)?, 0)?;
+/// let Reported { response, missing } = reception.response.unwrap();
+/// assert_eq!(response.acknowledgments, AcknowledgmentMap::try_new(&[true, false, false, true])?);
+/// assert_eq!(missing, Missing { count: 2, first: 1 });
+/// # Ok::<(), Refusal>(())
+/// ```
+#[derive(Debug, Clone, Copy, PartialEq, Eq, Hash)]
+pub struct Reported {
+    /// What is to be sent to the peer.
+    pub response: Response,
+    /// How many entries of its map are missing, and the first missing one.
+    pub missing: Missing,
+}
+
+impl Reported {
+    /// What a REPLY has; the outer none is for what spells none.
+    fn read(reply: &[u8]) -> Option<Option<Self>> {
+        let response = Response::take(&mut Take(reply))?;
+        let missing = Missing {
+            count: Take::at(reply, layout::reply::MISSING).take16(),
+            first: Take::at(reply, layout::reply::FIRST_MISSING).take16(),
+        };
+        Some(response.map(|response| Self { response, missing }))
+    }
+}
+
 /// What receiving gives.
 ///
 /// ```
 /// use catkhize::*;
-/// let reception = Reception { response: None, message: Some(b"abc") };
-/// assert_eq!(reception.message.map(<[u8]>::len), Some(3));
+/// let peer = MobileIdentity { kind: 0, width: 34, value: 1 };
+/// let protocol = HigherLayerProtocol::Segmented(0);
+/// let mut receiver = Receiver::try_new(peer, protocol, 0, 1, 100, 0)?;
+/// // The Begin asks for a response to every fourth segment; it is not the fourth.
+/// let reception = receiver.receive(peer, protocol, &decode_segment(&[0, 0, 1, b'a', 0x20, 0x08], 1)?, 0)?;
+/// assert_eq!(reception, Reception { response: None, message: None });
+/// let reception = receiver.receive(peer, protocol, &decode_segment(&[16, 1, 1, b'b'], 1)?, 0)?;
+/// assert_eq!(reception.response.map(|reported| reported.response.status), Some(Status::Received));
+/// assert_eq!(reception.response.map(|reported| reported.missing), Some(Missing { count: 0, first: 256 }));
+/// assert_eq!(reception.message, Some(b"ab".as_slice()));
+/// # Ok::<(), Refusal>(())
 /// ```
 #[derive(Debug, Clone, Copy, PartialEq, Eq)]
 pub struct Reception<'a> {
-    /// What is to be sent to the peer.
-    pub response: Option<Response>,
+    /// What is to be sent to the peer, and the figures of its map.
+    pub response: Option<Reported>,
     /// The message, once it is whole.
     pub message: Option<&'a [u8]>,
 }
@@ -62,15 +108,16 @@ pub struct Train<'a> {
     pub received: u64,
     /// Why the next one was refused, if one was.
     pub stopped: Option<Refusal>,
-    /// Every reception that carried a response or a message, in order, each with how many segments had been received, its own counted.
+    /// Every reception that carried a response or a message, in order, each with how many segments had been received, its own counted. A
+    /// response has the figures of its map beside it.
     pub receptions: Vec<(u64, Reception<'a>)>,
 }
 
 impl<'a> Train<'a> {
-    /// What is to be sent to the peer, in order.
+    /// What is to be sent to the peer, in order; the figures are in [`receptions`](Self::receptions).
     pub fn responses(&self) -> impl Iterator<Item = Response> {
         let receptions = self.receptions.iter();
-        receptions.filter_map(|(_, reception)| reception.response)
+        receptions.filter_map(|(_, reception)| Some(reception.response?.response))
     }
 
     /// The message, if the train handed it over.
@@ -100,11 +147,12 @@ pub struct Receiver {
     output: Vec<u8>,
 }
 
-/// The response of a RECEPTION, and the number of octets handed over.
-type Found = (Option<Response>, Option<u64>);
+/// The response of a RECEPTION with its figures, and the number of octets handed over.
+type Found = (Option<Reported>, Option<u64>);
 
-fn found(take: &mut Take) -> Option<Found> {
-    let response = Response::take(take)?;
+fn found(reception: &[u8]) -> Option<Found> {
+    let response = Reported::read(reception)?;
+    let mut take = Take::at(reception, layout::reception::MESSAGE);
     let handed_over = take.flag();
     let octets = take.take64();
     Some((response, handed_over.then_some(octets)))
@@ -138,7 +186,8 @@ impl Receiver {
         })
     }
 
-    /// Takes one decoded segment. A failed reception is no refusal: the state has its status.
+    /// Takes one decoded segment. A failed reception is no refusal: the state has its status. A response, also that of a failed reception,
+    /// has the figures of its map beside it.
     ///
     /// Two refusals change the receiver, both [`Refusal::CLOSED`]: past the deadline under Prohibited it expires, and a Complete receiver
     /// takes the reading of a segment that it does not hold. Past the deadline under any other window the segment is refused with
@@ -175,32 +224,35 @@ impl Receiver {
             &mut answer,
         );
         Given::new(given).done()?;
-        found(&mut Take(&answer))
+        found(&answer)
             .and_then(|found| self.reception(found))
             .ok_or(Refusal::BUFFER_SPELLS_NONE)
     }
 
     /// Takes segments that stand one after another in `octets`, each as long as `lengths` says, all with one reading, up to the first
     /// that decoding or receiving refuses. The entry stops behind each segment that is answered or that hands over the message; this goes
-    /// on with the rest and gives every response and the message. The error is for buffers alone, which this type keeps right.
+    /// on with the rest and gives every response, with the figures of its map, and the message. The error is for buffers alone, which this type
+    /// keeps right.
     ///
     /// ```
     /// use catkhize::*;
     /// let peer = MobileIdentity { kind: 0, width: 34, value: 1 };
     /// let protocol = HigherLayerProtocol::Segmented(0);
     /// let mut receiver = Receiver::try_new(peer, protocol, 0, 1, 100, 0)?;
-    /// // The Begin asks for a response to every fourth segment.
+    /// // The Begin asks for a response to every fourth segment; the third comes last.
     /// let segments: [&[u8]; 6] = [
-    ///     &[0, 0, 1, b'a', 0x20, 0x08], &[8, 1, 1, b'b'], &[8, 2, 1, b'c'], &[8, 3, 1, b'd'], &[8, 4, 1, b'e'], &[16, 5, 1, b'f'],
+    ///     &[0, 0, 1, b'a', 0x20, 0x08], &[8, 1, 1, b'b'], &[8, 3, 1, b'd'], &[8, 4, 1, b'e'], &[16, 5, 1, b'f'], &[8, 2, 1, b'c'],
     /// ];
     /// let lengths = segments.map(|octets| octets.len() as u16);
     /// let train = receiver.receive_train(peer, protocol, &segments.concat(), &lengths, 5)?;
     /// assert_eq!((train.received, train.stopped), (6, None));
-    /// for (received, reception) in &train.receptions {
-    ///     println!("behind segment {received}: send {:?}", reception.response);
+    /// for response in train.responses() {
+    ///     println!("send {response:?}");
     /// }
-    /// let behind: Vec<u64> = train.receptions.iter().map(|(received, _)| *received).collect();
-    /// assert_eq!(behind, [4, 6]);
+    /// let figures = train.receptions.iter().map(|(received, reception)| (*received, reception.response.unwrap().missing));
+    /// let one = Missing { count: 1, first: 2 };
+    /// let none = Missing { count: 0, first: Missing::NONE };
+    /// assert_eq!(figures.collect::<Vec<_>>(), [(3, one), (5, one), (6, none)]);
     /// assert_eq!(train.message(), Some(b"abcdef".as_slice()));
     /// # Ok::<(), Refusal>(())
     /// ```
@@ -235,10 +287,10 @@ impl Receiver {
             if let Some(refusal) = stopped.filter(|refusal| refusal.is_own()) {
                 return Err(refusal);
             }
-            let mut take = Take(&answer);
-            let count = take.take64();
+            let count = Take(&answer).take64();
             received += count;
-            let found = found(&mut take).ok_or(Refusal::BUFFER_SPELLS_NONE)?;
+            let reception = &answer[layout::train::RECEPTION..];
+            let found = found(reception).ok_or(Refusal::BUFFER_SPELLS_NONE)?;
             if found != (None, None) {
                 carried.push((received, found));
             }
@@ -272,7 +324,8 @@ impl Receiver {
         Some(Reception { response, message })
     }
 
-    /// Lets time pass. A response asks the peer for what is missing.
+    /// Lets time pass. A response asks the peer for what is missing, and has the figures of its map beside it. Where the end is not known, the
+    /// map has one more entry, past the highest sequence number held; that entry is missing and is counted. Where 255 is held there is none.
     ///
     /// It is to be called at [`deadline_monotonic_ms`](Self::deadline_monotonic_ms), or as soon after it as may be: nothing happens between
     /// calls. Under Prohibited the receiver then expires; under any other window it answers and stays open, without a deadline until the
@@ -285,17 +338,18 @@ impl Receiver {
     /// let protocol = HigherLayerProtocol::Segmented(0);
     /// let mut receiver = Receiver::try_new(peer, protocol, 0, 1, 100, 0)?;
     /// receiver.receive(peer, protocol, &decode_segment(&[0, 0, 0, 0x20, 0x08], 1)?, 0)?;
-    /// let response = receiver.advance(300_000)?.unwrap();
+    /// let Reported { response, missing } = receiver.advance(300_000)?.unwrap();
     /// assert_eq!(response.status, Status::InterSegmentTimeout);
     /// assert_eq!(response.acknowledgments.received(1), Some(false));
+    /// assert_eq!(missing, Missing { count: 1, first: 1 });
     /// # Ok::<(), Refusal>(())
     /// ```
-    pub fn advance(&mut self, monotonic_ms: u64) -> Result<Option<Response>, Refusal> {
+    pub fn advance(&mut self, monotonic_ms: u64) -> Result<Option<Reported>, Refusal> {
         let mut answer = [0; layout::REPLY];
         let given =
             calls::receiver_advance(&mut self.record, &mut self.store, monotonic_ms, &mut answer);
         Given::new(given).done()?;
-        Response::take(&mut Take(&answer)).ok_or(Refusal::BUFFER_SPELLS_NONE)
+        Reported::read(&answer).ok_or(Refusal::BUFFER_SPELLS_NONE)
     }
 
     /// Ends an open reception.

@@ -44,6 +44,29 @@ numbered! {
     }
 }
 
+/// How many entries of an acknowledgment map are missing, and which is the first of them.
+///
+/// ```
+/// use catkhize::{AcknowledgmentMap, Missing, Refusal};
+/// let map = AcknowledgmentMap::try_new(&[true, false, true, false])?;
+/// assert_eq!(map.missing(), Missing { count: 2, first: 1 });
+/// let map = AcknowledgmentMap::try_new(&[true; 4])?;
+/// assert_eq!(map.missing(), Missing { count: 0, first: Missing::NONE });
+/// # Ok::<(), Refusal>(())
+/// ```
+#[derive(Debug, Clone, Copy, PartialEq, Eq, Hash)]
+pub struct Missing {
+    /// How many entries are missing.
+    pub count: u16,
+    /// The first missing entry, [`NONE`](Self::NONE) if there is none.
+    pub first: u16,
+}
+
+impl Missing {
+    /// What stands for the first missing entry where none is missing.
+    pub const NONE: u16 = 256;
+}
+
 /// Which segments were received: 1 to 256 entries.
 ///
 /// ```
@@ -60,7 +83,14 @@ pub struct AcknowledgmentMap {
 }
 
 impl AcknowledgmentMap {
-    /// A map with these entries.
+    /// A map with these entries. [`missing`](Self::missing) says how many of them are missing and which is the first.
+    ///
+    /// ```
+    /// use catkhize::{AcknowledgmentMap, Missing, Refusal};
+    /// let map = AcknowledgmentMap::try_new(&[true, true, false])?;
+    /// assert_eq!(map.missing(), Missing { count: 1, first: 2 });
+    /// # Ok::<(), Refusal>(())
+    /// ```
     pub fn try_new(received: &[bool]) -> Result<Self, Refusal> {
         if !(1..=MAX_MAP_BITS).contains(&received.len()) {
             return Err(Refusal::ACKNOWLEDGMENT_MAP_LENGTH);
@@ -86,6 +116,40 @@ impl AcknowledgmentMap {
         let index = usize::from(sequence_number);
         let word = self.words.get(index / WORD_BITS)?;
         (index < self.bit_count()).then_some(word >> (index % WORD_BITS) & 1 == 1)
+    }
+
+    /// How many of the map's entries are missing, and the first missing one. Marks past the entries do not count.
+    ///
+    /// ```
+    /// use catkhize::{AcknowledgmentMap, Missing, Refusal};
+    /// let mut received = [true; 256];
+    /// let missing = |received: &[bool]| AcknowledgmentMap::try_new(received).map(|map| map.missing());
+    /// assert_eq!(missing(&received)?, Missing { count: 0, first: 256 });
+    /// received[255] = false;
+    /// assert_eq!(missing(&received)?, Missing { count: 1, first: 255 });
+    /// received[64] = false;
+    /// assert_eq!(missing(&received)?, Missing { count: 2, first: 64 });
+    /// assert_eq!(missing(&received[..64])?, Missing { count: 0, first: Missing::NONE });
+    /// # Ok::<(), Refusal>(())
+    /// ```
+    pub fn missing(&self) -> Missing {
+        let mut missing = Missing {
+            count: 0,
+            first: Missing::NONE,
+        };
+        for (from, word) in (0..).step_by(WORD_BITS).zip(self.words) {
+            let entries = match self.bit_count().saturating_sub(from) {
+                0 => 0,
+                count @ 1..WORD_BITS => (1 << count) - 1,
+                _ => u64::MAX,
+            };
+            let unmarked = entries & !word;
+            if missing.count == 0 && unmarked != 0 {
+                missing.first = from as u16 + unmarked.trailing_zeros() as u16;
+            }
+            missing.count += unmarked.count_ones() as u16;
+        }
+        missing
     }
 }
 
@@ -175,5 +239,25 @@ impl Response {
             optional_services_support: listed.then_some(support),
         };
         Some(present.then_some(response))
+    }
+}
+
+#[cfg(test)]
+mod tests {
+    use super::*;
+
+    /// Words with marks past the entries, which `try_new` does not make.
+    #[test]
+    fn marks_past_the_entries() {
+        let missing = |words, bit_count| {
+            let Missing { count, first } = AcknowledgmentMap { words, bit_count }.missing();
+            (count, first)
+        };
+        assert_eq!(missing([!0; 4], 1), (0, 256));
+        assert_eq!(missing([!1, !0, !0, !0], 1), (1, 0));
+        assert_eq!(missing([!0, !1, !0, !0], 64), (0, 256));
+        assert_eq!(missing([!0, !1, !0, !0], 65), (1, 64));
+        assert_eq!(missing([0, 0, 0, !0], 192), (192, 0));
+        assert_eq!(missing([!4, !0, !0, 1 << 63], 193), (2, 2));
     }
 }

@@ -197,7 +197,8 @@ fn receivers() {
     let (given, record, _, output) = receive(segment(2, 1, 2), b"c", 200);
     assert_eq!((given, record[23]), (0, 2));
     assert!(output.starts_with(b"abc") && untouched(&output[3..]));
-    assert_eq!((answer[42], number(&answer[43..])), (1, 3));
+    let message = &answer[layout::reception::MESSAGE..];
+    assert_eq!((message[0], number(&message[1..])), (1, 3));
 }
 
 #[test]
@@ -249,8 +250,9 @@ fn trains() {
     };
     let (given, received, reception) = train(&octets, &lengths);
     assert_eq!((given, received), (0, 2));
-    assert!(reception[..42].iter().all(|octet| *octet == 0));
-    assert_eq!(reception[42..], [1, 0, 0, 0, 0, 0, 0, 0, 2]);
+    let (reply, message) = reception.split_at(layout::reception::MESSAGE);
+    assert!(reply.iter().all(|octet| *octet == 0));
+    assert_eq!(message, [1, 0, 0, 0, 0, 0, 0, 0, 2]);
     let (given, received, reception) = train(&octets[8..], &lengths[4..]);
     assert_eq!((refusal(given), received), (Refusal::PROTOCOL, 1));
     assert!(reception.iter().all(|octet| *octet == 0));
@@ -308,16 +310,17 @@ fn trains_go_on() {
             let decoded = decode_segment(segment, 1).expect("a segment");
             let reception = single.receive(PEER, PROTOCOL, &decoded, 100);
             let reception = reception.expect("it is taken");
-            if let Some(response) = reception.response {
-                expected.push((index as u64 + 1, response));
+            if let Some(reported) = reception.response {
+                expected.push((index as u64 + 1, reported));
             }
         }
-        let responses = train.receptions.iter();
-        let responses: Vec<(u64, Response)> = responses
+        let reported = train.receptions.iter();
+        let reported: Vec<(u64, Reported)> = reported
             .filter_map(|(n, reception)| Some((*n, reception.response?)))
             .collect();
-        assert_eq!(responses, expected);
-        assert_eq!(train.responses().count(), expected.len());
+        assert_eq!(reported, expected);
+        let responses = expected.iter().map(|(_, reported)| reported.response);
+        assert!(train.responses().eq(responses));
         drop(train);
         assert_eq!(one.record(), single.record());
     }
@@ -340,6 +343,313 @@ fn trains_go_on() {
     assert_eq!(train.receptions.len(), 1);
     let train = receiver.receive_train(PEER, PROTOCOL, &[], &[], 100);
     assert_eq!(train.map(|train| train.received), Ok(0));
+}
+
+const CONTINUING: Status = Status::Continuing;
+const RECEIVED: Status = Status::Received;
+const TIMEOUT: Status = Status::InterSegmentTimeout;
+
+/// Status, number of entries, how many of them are missing, and the first missing one.
+type Figures = (Status, usize, u16, u16);
+
+/// What is said beside a response: the same as its map says of itself.
+fn figures(reported: Reported) -> Figures {
+    let map = reported.response.acknowledgments;
+    assert_eq!(reported.missing, map.missing());
+    let Missing { count, first } = reported.missing;
+    (reported.response.status, map.bit_count(), count, first)
+}
+
+fn begin(
+    acknowledgment_window: AcknowledgmentWindow,
+    compression: Compression,
+    crc_status: CrcStatus,
+) -> SegmentKind {
+    SegmentKind::Begin {
+        message_length: None,
+        services: Some(OptionalServices {
+            compression,
+            acknowledgment_window,
+            crc_status,
+        }),
+    }
+}
+
+const CONTINUE: SegmentKind = SegmentKind::Continue {
+    message_length: None,
+};
+
+fn end(message_length: Option<u16>) -> SegmentKind {
+    SegmentKind::End {
+        message_length,
+        crc: None,
+    }
+}
+
+/// The receiver of transaction 2, at version 5.
+fn new_receiver() -> Receiver {
+    Receiver::try_new(PEER, PROTOCOL, 2, 5, 65_280, 0).expect("a right peer")
+}
+
+/// Receives a segment; what is said beside the response, if there is one.
+fn receive(
+    receiver: &mut Receiver,
+    sequence: u8,
+    kind: SegmentKind,
+    data: &[u8],
+) -> Option<Figures> {
+    let segment = Segment {
+        transaction_id: 2,
+        sequence_number: sequence,
+        segment_data: data,
+        kind,
+    };
+    let decoded = DecodedSegment {
+        segment,
+        unparsed_octets: &[],
+    };
+    let reception = receiver.receive(PEER, PROTOCOL, &decoded, 0);
+    reception.expect("it is taken").response.map(figures)
+}
+
+/// Receives a Begin under a window, then these segments of one octet, `last` as the End; what is said beside each response.
+fn receive_all(
+    receiver: &mut Receiver,
+    window: AcknowledgmentWindow,
+    sequences: impl IntoIterator<Item = u8>,
+    last: u8,
+) -> Vec<Figures> {
+    let begin = begin(window, Compression::None, CrcStatus::None);
+    assert_eq!(receive(receiver, 0, begin, b"a"), None);
+    let kind = |sequence| {
+        if sequence == last {
+            end(None)
+        } else {
+            CONTINUE
+        }
+    };
+    let sequences = sequences.into_iter();
+    sequences
+        .filter_map(|sequence| receive(receiver, sequence, kind(sequence), &[sequence]))
+        .collect()
+}
+
+/// The figures beside the responses to whole trains, written by hand.
+#[test]
+fn figures_of_trains() {
+    use AcknowledgmentWindow::{Every4, Every8, Every16, Last, Prohibited};
+    // In order, without 2, 5 and 8; then these.
+    let mut receiver = new_receiver();
+    let said = receive_all(&mut receiver, Every4, [1, 3, 4, 6, 7, 9, 8, 5, 2], 9);
+    let expected = [
+        (CONTINUING, 4, 1, 2),
+        (CONTINUING, 8, 2, 2),
+        (CONTINUING, 10, 3, 2),
+        (RECEIVED, 10, 0, 256),
+    ];
+    assert_eq!(said, expected);
+    // A repeat after that, and one that differs.
+    assert_eq!(
+        receive(&mut receiver, 3, CONTINUE, &[3]),
+        Some((RECEIVED, 10, 0, 256))
+    );
+    assert_eq!(
+        receive(&mut receiver, 3, CONTINUE, &[4]),
+        Some((Status::Aborted, 10, 0, 256))
+    );
+    // Reversed.
+    let said = receive_all(&mut new_receiver(), Every4, (1..10).rev(), 9);
+    let expected = [
+        (CONTINUING, 10, 8, 1),
+        (CONTINUING, 10, 6, 1),
+        (CONTINUING, 10, 2, 1),
+        (RECEIVED, 10, 0, 256),
+    ];
+    assert_eq!(said, expected);
+    // A full train: the entries next to the borders of the words come last, and 255 before them.
+    let late = [63, 64, 127, 128, 191, 192];
+    let sequences = (1..=254).filter(|sequence| !late.contains(sequence));
+    let sequences = sequences.chain([255]).chain(late);
+    let said = receive_all(&mut new_receiver(), Every16, sequences, 255);
+    let expected = [
+        (CONTINUING, 16, 0, 256),
+        (CONTINUING, 32, 0, 256),
+        (CONTINUING, 48, 0, 256),
+        (CONTINUING, 80, 2, 63),
+        (CONTINUING, 96, 2, 63),
+        (CONTINUING, 112, 2, 63),
+        (CONTINUING, 144, 4, 63),
+        (CONTINUING, 160, 4, 63),
+        (CONTINUING, 176, 4, 63),
+        (CONTINUING, 208, 6, 63),
+        (CONTINUING, 224, 6, 63),
+        (CONTINUING, 240, 6, 63),
+        (CONTINUING, 256, 6, 63),
+        (CONTINUING, 256, 5, 64),
+        (CONTINUING, 256, 3, 128),
+        (CONTINUING, 256, 1, 192),
+        (RECEIVED, 256, 0, 256),
+    ];
+    assert_eq!(said, expected);
+    // A full train, reversed.
+    let said = receive_all(&mut new_receiver(), Last, (1..=255).rev(), 255);
+    assert_eq!(said, [(CONTINUING, 256, 254, 1), (RECEIVED, 256, 0, 256)]);
+    // The entries end where a word does, or one past it.
+    let said = receive_all(&mut new_receiver(), Every8, [63, 64], 255);
+    assert_eq!(said, [(CONTINUING, 64, 62, 1)]);
+    let said = receive_all(&mut new_receiver(), Last, [64], 64);
+    assert_eq!(said, [(CONTINUING, 65, 63, 1)]);
+    // Without responses there are none.
+    let said = receive_all(&mut new_receiver(), Prohibited, (1..10).rev(), 9);
+    assert_eq!(said, []);
+}
+
+/// The figures beside the responses to receptions that fail, written by hand.
+#[test]
+fn figures_of_failures() {
+    use AcknowledgmentWindow::{Every4, Exceptions, Last};
+    // A repeat that differs: the slot holds what came first.
+    let mut receiver = new_receiver();
+    assert_eq!(receive_all(&mut receiver, Last, [2, 4], 9), []);
+    assert_eq!(
+        receive(&mut receiver, 2, CONTINUE, b"!"),
+        Some((Status::Aborted, 5, 2, 1))
+    );
+    let mut receiver = new_receiver();
+    assert_eq!(receive_all(&mut receiver, Last, [2, 4], 9), []);
+    assert_eq!(
+        receive(&mut receiver, 4, CONTINUE, b""),
+        Some((Status::DuplicateSizeMismatch, 5, 2, 1))
+    );
+    // Another length than is stated, when all is there, and before that: there the segment is not held.
+    let mut receiver = new_receiver();
+    assert_eq!(receive_all(&mut receiver, Last, [1], 9), []);
+    let length_error = Status::MessageLengthError;
+    assert_eq!(
+        receive(&mut receiver, 2, end(Some(4)), b"c"),
+        Some((length_error, 3, 0, 256))
+    );
+    let mut receiver = new_receiver();
+    assert_eq!(receive_all(&mut receiver, Exceptions, [2], 9), []);
+    assert_eq!(
+        receive(&mut receiver, 4, end(Some(2)), b"e"),
+        Some((length_error, 3, 1, 1))
+    );
+    // A Begin that fails is not held either.
+    let mut receiver = new_receiver();
+    let compressed = begin(Every4, Compression::V42Bis, CrcStatus::None);
+    assert_eq!(
+        receive(&mut receiver, 0, compressed, b"a"),
+        Some((Status::CompressionUnsupported, 1, 1, 0))
+    );
+    // The same with a support list.
+    let mut receiver = new_receiver();
+    let both = begin(Every4, Compression::V42Bis, CrcStatus::Crc16);
+    assert_eq!(
+        receive(&mut receiver, 0, both, b"a"),
+        Some((Status::MultipleServicesUnsupported, 1, 1, 0))
+    );
+}
+
+/// The figures beside timeout answers, written by hand.
+#[test]
+fn figures_of_timeouts() {
+    use AcknowledgmentWindow::{Exceptions, Last, Prohibited};
+    let timeout = |window, sequences: &[u8], last| {
+        let mut receiver = new_receiver();
+        receive_all(&mut receiver, window, sequences.iter().copied(), last);
+        assert_eq!(receiver.advance(299_999), Ok(None));
+        let reported = receiver.advance(300_000).expect("a right reading");
+        reported.map(figures)
+    };
+    // The end is not known: the map goes one entry past the highest.
+    assert_eq!(timeout(Last, &[], 9), Some((TIMEOUT, 2, 1, 1)));
+    assert_eq!(timeout(Exceptions, &[1, 2, 4], 9), Some((TIMEOUT, 6, 2, 3)));
+    let all: Vec<u8> = (1..=254).collect();
+    assert_eq!(timeout(Last, &all, 255), Some((TIMEOUT, 256, 1, 255)));
+    // It is known.
+    assert_eq!(timeout(Last, &[9, 1], 9), Some((TIMEOUT, 10, 7, 2)));
+    assert_eq!(timeout(Last, &[255], 255), Some((TIMEOUT, 256, 254, 1)));
+    // No response.
+    assert_eq!(timeout(Prohibited, &[1, 3], 9), None);
+}
+
+/// A REPLY's figures in its octets. Slot 255 held without a known end, which only a made up record has: 256 entries.
+#[test]
+fn figures_in_octets() {
+    let mut store = filled(layout::STORE);
+    let mut advance = |record: &mut [u8], reading| {
+        let mut answer = filled(layout::REPLY + 9);
+        let given = calls::receiver_advance(record, &mut store, reading, &mut answer);
+        assert_eq!(given, 0);
+        assert!(untouched(&answer[layout::REPLY..]));
+        answer.truncate(layout::REPLY);
+        answer
+    };
+    let mut receiver = new_receiver();
+    let said = receive_all(&mut receiver, AcknowledgmentWindow::Last, [7, 255], 255);
+    assert_eq!(said, [(CONTINUING, 256, 253, 1)]);
+    let mut record = receiver.record().to_vec();
+    assert_eq!(record[28..30], [1, 255]);
+    record[28..30].fill(0);
+    assert_eq!(advance(&mut record, 299_999), [0; layout::REPLY]);
+    let answer = advance(&mut record, 300_000);
+    assert_eq!(answer[..5], [1, 2, TIMEOUT as u8, 1, 0]);
+    assert_eq!(answer[42..], [0, 253, 0, 1]);
+    // Entries 0, 7 and 255.
+    let words = [0x81, 0, 0, 1 << 63];
+    let octets = words.map(u64::to_be_bytes).concat();
+    assert_eq!(answer[5..37], octets);
+    let received: Vec<bool> = (0..256)
+        .map(|i| words[i / 64] >> (i % 64) & 1 == 1)
+        .collect();
+    let map = AcknowledgmentMap::try_new(&received).expect("256 entries");
+    let (count, first) = (253, 1);
+    assert_eq!(map.missing(), Missing { count, first });
+}
+
+/// Answers shorter than their layouts, by an octet and by the figures.
+#[test]
+fn short_answers() {
+    let mut record = receiver(10);
+    let before = record.clone();
+    let mut store = filled(layout::STORE);
+    let mut output = filled(10);
+    let mut answer = filled(layout::TRAIN);
+    for less in [1, 4] {
+        let given = [
+            calls::receiver_receive(
+                &mut record,
+                &mut store,
+                &mut output,
+                origin(),
+                &segment(2, 0, 0),
+                b"a",
+                0,
+                100,
+                &mut answer[..layout::RECEPTION - less],
+            ),
+            calls::receiver_advance(
+                &mut record,
+                &mut store,
+                100,
+                &mut answer[..layout::REPLY - less],
+            ),
+            calls::receiver_train(
+                &mut record,
+                &mut store,
+                &mut output,
+                origin(),
+                &[2, 0, 1, b'a'],
+                &[0, 4],
+                100,
+                &mut answer[..layout::TRAIN - less],
+            ),
+        ];
+        assert_eq!(given.map(refusal), [Refusal::BUFFER_TOO_SHORT; 3]);
+    }
+    assert_eq!(record, before);
+    assert!(untouched(&store) && untouched(&output) && untouched(&answer));
 }
 
 #[test]

@@ -1,6 +1,7 @@
 //! Corners of the receiver: document 01's, the order and the boundaries of its refusals, and what each call leaves, run on hand-made calls.
 
 mod bench;
+mod figures;
 mod impossible;
 mod made;
 mod marked;
@@ -25,6 +26,7 @@ pub fn corners(tally: &mut Tally) {
     refusals::corners(tally);
     impossible::corners(tally);
     windows::corners(tally);
+    figures::corners(tally);
     trains::corners(tally);
     one_call::corners(tally);
 }

@@ -9,20 +9,22 @@ use bts136::l3::tsar::{AcknowledgmentWindow, decode_segment};
 use bts136::link::rach::MobileIdentity;
 use bts136::link::tsar::Receiver;
 use catkhize::{calls, layout};
+use plain::receiver::Reported;
 use shared::{
     Buffers, CONTINUE, END, FILL, HEADER_OCTETS, MESSAGE_OCTETS, ORIGIN, READING, SEGMENT_OCTETS,
     SEGMENTS, TRANSACTION, VERSION, begin, encoded, median,
 };
-use std::{env, hint::black_box, time::Instant};
+use std::{env, hint::black_box, ops::Range, time::Instant};
 
 /// Trains in one timing, and timings of each program: the median of the latter goes into the table.
 const TRAINS: usize = 5;
 const ROUNDS: usize = 301;
 
 /// In the answer to a train, where the number of segments received and the number of octets handed over begin: its first and its last
-/// number.
+/// number. Between them, the REPLY.
 const RECEIVED_AT: usize = 0;
 const COUNT_AT: usize = layout::TRAIN - size_of::<u64>();
+const REPLY: Range<usize> = layout::train::RECEPTION..layout::train::RECEPTION + layout::REPLY;
 
 /// Encoded segments one after another, with the number of octets of each in two octets.
 struct Train {
@@ -113,8 +115,9 @@ impl Program {
                 &train.lengths,
                 &mut buffers.store,
                 &mut buffers.output,
+                &mut buffers.responses,
             ),
-            Self::Port => port(train, buffers).0,
+            Self::Port => port(train, buffers, |_| ()).0,
             Self::Record => record(train, buffers),
             Self::Copies => copies(train, buffers),
         }
@@ -178,14 +181,19 @@ fn take(octets: &[u8], lengths: &[u8], buffers: &mut Buffers) -> [u8; layout::TR
 
 /// The exports as firmware calls them: the record is made in octets; a call reads it off them, takes it through the train up to the first
 /// reception that carries a response or a message, and puts it back, and firmware goes on with the rest. Gives the number of octets handed
-/// over, and the number of calls that it took.
+/// over, and the number of calls that it took; `see` is given every answer.
 #[inline(never)]
-fn port(train: &Train, buffers: &mut Buffers) -> (usize, usize) {
+fn port(
+    train: &Train,
+    buffers: &mut Buffers,
+    mut see: impl FnMut(&[u8; layout::TRAIN]),
+) -> (usize, usize) {
     buffers.make();
     let (mut octets, mut lengths) = (train.octets.as_slice(), train.lengths.as_slice());
     let mut calls = 0;
     loop {
         let answer = take(octets, lengths, buffers);
+        see(&answer);
         calls += 1;
         let (received, rest) = lengths.split_at(2 * number(&answer, RECEIVED_AT));
         for pair in received.chunks_exact(2) {
@@ -221,6 +229,35 @@ fn copies(train: &Train, buffers: &mut Buffers) -> usize {
         buffers.output[range.clone()].copy_from_slice(black_box(&buffers.store[range]));
     }
     MESSAGE_OCTETS
+}
+
+/// What plain Rust answers, as REPLY: a response, and the figures of its map. It lists no support here.
+fn reply(reported: &Reported) -> Vec<u8> {
+    let Reported { response, missing } = reported;
+    let map = response.acknowledgments;
+    let mut octets = vec![1, response.transaction_id, response.status as u8];
+    octets.extend(map.bit_count.to_be_bytes());
+    octets.extend(map.received.0.map(u64::to_be_bytes).concat());
+    assert!(response.optional_services_support.is_none());
+    octets.resize(layout::reply::MISSING, 0);
+    octets.extend(missing.count.to_be_bytes());
+    octets.extend(missing.first.to_be_bytes());
+    octets
+}
+
+/// Plain Rust and the port answer a train with the same responses and figures.
+fn compare_responses(name: &str, train: &Train, buffers: &mut Buffers) {
+    buffers.responses.fill(None);
+    Program::Plain.run(train, buffers);
+    let plain: Vec<Vec<u8>> = buffers.responses.iter().flatten().map(reply).collect();
+    let mut answered = Vec::new();
+    port(train, buffers, |answer| {
+        let reply = &answer[REPLY];
+        if reply[0] == 1 {
+            answered.push(reply.to_vec());
+        }
+    });
+    assert!(plain == answered, "{name}: other responses or figures");
 }
 
 /// 0 to 255, shuffled behind the Begin by splitmix64.
@@ -267,7 +304,7 @@ fn trains() {
     .map(|(name, window, order)| (name, Train::new(window, order)));
     let mut buffers = Buffers::new();
     for (_, train) in &mut cases {
-        train.calls = port(train, &mut buffers).1;
+        train.calls = port(train, &mut buffers, |_| ()).1;
     }
     for (name, train) in &cases {
         for program in Program::ALL {
@@ -280,6 +317,7 @@ fn trains() {
                 "{name}: another message"
             );
         }
+        compare_responses(name, train, &mut buffers);
     }
     let mut times = vec![[const { Vec::new() }; Program::ALL.len()]; cases.len()];
     for _ in 0..ROUNDS {

@@ -14,7 +14,7 @@ use crate::shared::{
     VERSION, begin, encoded, median,
 };
 use bts136::l3::tsar::{AcknowledgmentWindow, SegmentKind};
-use catkhize::{Status, calls, layout};
+use catkhize::{Missing, Status, calls, layout};
 use std::{hint::black_box, ops::Range, time::Instant};
 
 /// Calls in one timing, and timings of each row. They are short and many, so that the clock hardly changes within a round.
@@ -22,6 +22,12 @@ const CALLS: usize = 20;
 const ROUNDS: usize = 3001;
 
 const ROWS: usize = 8;
+
+/// The figures in the answer to a repeat that fails: its map has the Begin's entry and the repeated one, and both slots are held.
+const FIGURES: [u8; 4] = {
+    let [high, low] = Missing::NONE.to_be_bytes();
+    [0, 0, high, low]
+};
 
 /// The sequence number that is repeated, and its place in the store.
 const REPEATED: u8 = 1;
@@ -206,7 +212,10 @@ impl Place {
             Some(status) => {
                 let response = [1, TRANSACTION, status as u8];
                 assert_eq!(self.answer[..response.len()], response, "{name}");
-                assert_eq!(self.answer[layout::REPLY], 0, "{name}: a message");
+                let figures = &self.answer[layout::reply::MISSING..layout::REPLY];
+                assert_eq!(figures, FIGURES, "{name}: other figures");
+                let message = self.answer[layout::reception::MESSAGE];
+                assert_eq!(message, 0, "{name}: a message");
                 let (failed, with) = state(&self.buffers.record);
                 assert_ne!(failed, state(&row.record).0, "{name}");
                 assert_eq!(with, status as u8, "{name}");

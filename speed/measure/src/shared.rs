@@ -7,6 +7,7 @@ use bts136::l3::tsar::{
 };
 use catkhize::calls::{self, Origin};
 use catkhize::layout;
+use plain::receiver::Reported;
 
 pub const SEGMENTS: usize = 256;
 pub const SEGMENT_OCTETS: usize = 255;
@@ -32,6 +33,8 @@ pub struct Buffers {
     pub record: Vec<u8>,
     pub store: Vec<u8>,
     pub output: Vec<u8>,
+    /// Where plain Rust hands out its responses.
+    pub responses: Vec<Option<Reported>>,
 }
 
 impl Buffers {
@@ -40,6 +43,7 @@ impl Buffers {
             record: vec![FILL; layout::RECEIVER],
             store: vec![FILL; MESSAGE_OCTETS],
             output: vec![FILL; MESSAGE_OCTETS],
+            responses: vec![None; SEGMENTS],
         }
     }
 

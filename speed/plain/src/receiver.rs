@@ -8,6 +8,7 @@ use crate::words::Words;
 const REASSEMBLY_MS: u64 = 300_000;
 const SLOT_OCTETS: usize = 255;
 const STORE_OCTETS: usize = 65_280;
+const NONE_MISSING: u16 = 256;
 
 #[derive(Clone, Copy, PartialEq, Eq)]
 pub struct MobileIdentity {
@@ -57,6 +58,28 @@ pub struct AcknowledgmentMap {
     pub bit_count: u16,
 }
 
+/// How many entries of a map are missing, and the first of them: 256 where there is none.
+#[derive(Clone, Copy)]
+pub struct Missing {
+    pub count: u16,
+    pub first: u16,
+}
+
+/// A map of the first `bit_count` marks, and the figures of its missing entries.
+fn first_entries(received: Words, bit_count: u16) -> (AcknowledgmentMap, Missing) {
+    let entries = Words::below(usize::from(bit_count));
+    let missing = entries.minus(received);
+    let map = AcknowledgmentMap {
+        received: received.and(entries),
+        bit_count,
+    };
+    let missing = Missing {
+        count: missing.ones(),
+        first: missing.lowest().map_or(NONE_MISSING, u16::from),
+    };
+    (map, missing)
+}
+
 #[derive(Clone, Copy)]
 pub struct OptionalServicesSupport {
     pub compression: bool,
@@ -71,6 +94,13 @@ pub struct Response {
     pub status: Status,
     pub acknowledgments: AcknowledgmentMap,
     pub optional_services_support: Option<OptionalServicesSupport>,
+}
+
+/// A response, and beside it the figures of its map.
+#[derive(Clone, Copy)]
+pub struct Reported {
+    pub response: Response,
+    pub missing: Missing,
 }
 
 #[derive(Clone, Copy, Debug, PartialEq, Eq)]
@@ -93,7 +123,7 @@ pub enum ReceiveError {
 /// `message` counts the octets of the output that are handed over.
 #[derive(Clone, Copy)]
 pub struct Reception {
-    pub response: Option<Response>,
+    pub response: Option<Reported>,
     pub message: Option<usize>,
 }
 
@@ -293,7 +323,7 @@ impl Receiver {
         Ok(())
     }
 
-    fn response(&self, status: Status) -> Option<Response> {
+    fn response(&self, status: Status) -> Option<Reported> {
         if self.progress.services.acknowledgment_window == AcknowledgmentWindow::Prohibited {
             return None;
         }
@@ -301,19 +331,17 @@ impl Receiver {
             .progress
             .end_sequence
             .unwrap_or_else(|| self.held.highest().unwrap_or(0));
-        let bit_count = usize::from(last) + 1;
-        Some(Response {
+        let (acknowledgments, missing) = first_entries(self.held, u16::from(last) + 1);
+        let response = Response {
             transaction_id: self.terms.transaction_id,
             status,
-            acknowledgments: AcknowledgmentMap {
-                received: self.held.and(Words::below(bit_count)),
-                bit_count: bit_count as u16,
-            },
+            acknowledgments,
             optional_services_support: None,
-        })
+        };
+        Some(Reported { response, missing })
     }
 
-    fn required_response(&self, segment: Segment, status: Status) -> Option<Response> {
+    fn required_response(&self, segment: Segment, status: Status) -> Option<Reported> {
         let window = self.progress.services.acknowledgment_window;
         let period = match window {
             AcknowledgmentWindow::Prohibited | AcknowledgmentWindow::Exceptions => return None,
@@ -345,9 +373,9 @@ impl Receiver {
         let mut response = self.response(status);
         if status == Status::MultipleServicesUnsupported
             && self.terms.version >= 5
-            && let Some(response) = &mut response
+            && let Some(reported) = &mut response
         {
-            response.optional_services_support = Some(OptionalServicesSupport {
+            reported.response.optional_services_support = Some(OptionalServicesSupport {
                 compression: false,
                 encryption: true,
                 acknowledgment_window: true,

@@ -46,6 +46,17 @@ impl Words {
         self.minus(Self::below(usize::from(last) + 1)).is_none()
     }
 
+    /// How many marks are set.
+    pub fn ones(self) -> u16 {
+        let ones: u32 = self.0.iter().map(|word| word.count_ones()).sum();
+        ones as u16
+    }
+
+    pub fn lowest(self) -> Option<u8> {
+        let word = self.0.iter().position(|&word| word != 0)?;
+        Some((64 * word + self.0[word].trailing_zeros() as usize) as u8)
+    }
+
     pub fn highest(self) -> Option<u8> {
         let word = self.0.iter().rposition(|&word| word != 0)?;
         Some((64 * word + 63 - self.0[word].leading_zeros() as usize) as u8)

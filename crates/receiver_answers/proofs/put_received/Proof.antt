@@ -1,4 +1,4 @@
--- `receiver_answers::put_received` meets its contract: the message goes behind the 42 octets of the reply. Assumes nothing.
+-- `receiver_answers::put_received` meets its contract: the message goes behind the 46 octets of the reply. Assumes nothing.
 use borrow.Author.Needs.{needs}
 use mathlib.Core.Path.{refl, ap, _∙_}
 use Prim.Native.Nat.{_+_}
@@ -33,7 +33,7 @@ unfolding receptionImage
 returns c =
     let x = c .before .before .before .before .before .before .before .before .before .before .before .args in
     let p = c .before .before .before .before .before .before .before .before .put-reply .ensures in
-    put-next (now (x .dst)) (x .at) (replyImage (replySays (x .x .response))) (messageImage (messageSays (x .x .message))) _ _ (x .at + 42) 42 (p .0) (p .1) refl
+    put-next (now (x .dst)) (x .at) (replyImage (replySays (x .x .response))) (messageImage (messageSays (x .x .message))) _ _ (x .at + 46) 46 (p .0) (p .1) refl
     (c .before .before .put .ensures ∙ ap (sets _ _) (c .before .before .before .before .before .message-octets .ensures))
 
 pub put-received-spec : {M : Type 1} → statement M

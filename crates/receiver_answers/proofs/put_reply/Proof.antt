@@ -1,11 +1,12 @@
--- `receiver_answers::put_reply` meets its contract, case by case: 42 times 0, or 1 and the response behind it. Assumes nothing.
+-- `receiver_answers::put_reply` meets its contract, case by case: 46 times 0, or 1, the response and the two figures, one behind the other. Assumes nothing.
 use borrow.Author.Needs.{needs}
 use Prim.Native.Nat.{_+_}
 use native.Mathlib.Omega.{arith}
 use mathlib.Core.Path.{_≡_, refl}
-use mathlib.Core.List.{[], _∷_}
-use lib.ListN.{length}
+use mathlib.Core.List.{[], _∷_, _++_}
+use lib.ListN.{length, length-append}
 use denote.Ref.{now}
+use Rattle.image.specs.Numbers.{spell, length-spell}
 use Rattle.image.specs.Spelling.{put-next}
 use Rattle.image_link.specs.Responses.{responseImage, response-layout}
 use Rattle.receiver_answers.specs.Answers.{replyImage}
@@ -36,6 +37,21 @@ add-put-response c = search needs
 put-response-requires : tie.Need-put-response-requires
 put-response-requires c κs = search needs
 
+add-put16 : tie.Need-add-put16
+add-put16 c = search needs
+
+put16-requires : tie.Need-put16-requires
+put16-requires c κs = search needs
+
+add-put16-2 : tie.Need-add-put16-2
+add-put16-2 c = search needs
+
+add-put16-3 : tie.Need-add-put16-3
+add-put16-3 c = search needs
+
+put16-requires-2 : tie.Need-put16-requires-2
+put16-requires-2 c κs = search needs
+
 same-length : tie.Need-same-length
 same-length c = search needs
 
@@ -49,12 +65,20 @@ same-length-2 c = search needs
 returns-2 : tie.Need-returns-2
 unfolding replyImage
 returns-2 c =
-    let x = c .before .before .before .before .before .before .before .before .before .before .before .before .before .args in
-    let r = c .before .before .before .before .before .before .before .before .before .before .reply .given .0 .0 in
-    let p = c .before .before .put-response .ensures in
-    let e : length (responseImage r) ≡ 41 = response-layout .wide r (p .1) in
-    rw (c .before .before .before .before .before .before .before .before .before .before .reply .given .1)
-    (put-next (now (x .dst)) (x .at) (1 ∷ []) (responseImage r) _ _ (x .at + 1) 1 (c .before .before .before .before .before .before .put2 .ensures) refl refl (p .0), omega arith)
+    let x = c .before .before .before .before .before .before .before .before .before .before .before .before .before .before .before .before .before .before .before .before .before .before .before .args in
+    let answered = c .before .before .before .before .before .before .before .before .before .before .before .before .before .before .before .before .before .before .before .before .reply .given in
+    let r = answered .0 .0 in
+    let response = responseImage (r .response) in
+    let count = spell 2 (r .missing .count) in
+    let first = spell 2 (r .missing .first) in
+    let p = c .before .before .before .before .before .before .before .before .before .before .before .put-response .ensures in
+    let wide : length response ≡ 41 = response-layout .wide (r .response) (p .1) in
+    let two : length count ≡ 2 = length-spell 2 (r .missing .count) in
+    let three : length first ≡ 2 = length-spell 2 (r .missing .first) in
+    let flagged = put-next (now (x .dst)) (x .at) (1 ∷ []) response _ _ (x .at + 1) 1 (c .before .before .before .before .before .before .before .before .before .before .before .before .before .before .before .before .put2 .ensures) refl refl (p .0) in
+    let figures = put-next _ (x .at + 42) count first _ _ (x .at + 42 + 2) 2 (c .before .before .before .before .before .before .put16 .ensures .0) two refl (c .before .before .put162 .ensures .0) in
+    rw (answered .1)
+    (put-next (now (x .dst)) (x .at) (1 ∷ response) (count ++ first) _ _ (x .at + 42) 42 flagged (omega arith) refl figures, simp length-append (omega arith))
 
 pub put-reply-spec : {M : Type 1} → statement M
 put-reply-spec =
@@ -68,6 +92,11 @@ put-reply-spec =
     put-requires-2
     add-put-response
     put-response-requires
+    add-put16
+    put16-requires
+    add-put16-2
+    add-put16-3
+    put16-requires-2
     same-length
     returns
     same-length-2

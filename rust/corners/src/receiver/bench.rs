@@ -13,6 +13,15 @@ pub const SLOT: usize = 255;
 /// Where services, end and stated length stand in a record.
 const NOTED: std::ops::Range<usize> = 25..33;
 
+/// Where the figures of a response's map stand in an answer.
+const FIGURES: std::ops::Range<usize> = layout::reply::MISSING..layout::REPLY;
+
+/// What stands for the first missing entry where none is missing.
+const NONE_MISSING: u16 = 256;
+
+/// What REPLY has behind its flag: RESPONSE, and the figures of its map.
+pub type Reported = [u8; layout::REPLY - 1];
+
 /// The list of what is supported: no compression, encryption, windows, no CRC.
 const SUPPORTED: [u8; 4] = [0, 1, 1, 0];
 
@@ -72,16 +81,29 @@ impl Lent {
     }
 }
 
-/// The receiver, the record that it has to have, and the seed of its data.
+/// The receiver, the record that it has to have, the seed of its data, and what the last answer had where figures stand.
 struct Bench<'a> {
     group: &'a mut Group,
     seed: u8,
     record: Record,
     lent: Lent,
+    figures: Vec<u8>,
 }
 
-/// RESPONSE. Its status says how the reception stands, or that nothing came in time.
-pub fn response(outcome: Outcome, state: State, map: Map) -> [u8; layout::RESPONSE] {
+/// How many entries of a map are missing, and the first of them: entry by entry.
+fn figures(map: Map) -> [u16; 2] {
+    let (mut missing, mut first) = (0, NONE_MISSING);
+    for entry in 0..map.entries {
+        if map.marks[usize::from(entry / 64)] >> (entry % 64) & 1 == 0 {
+            missing += 1;
+            first = first.min(entry);
+        }
+    }
+    [missing, first]
+}
+
+/// RESPONSE and figures. The status says how the reception stands, or that nothing came in time.
+pub fn reported(outcome: Outcome, state: State, map: Map) -> Reported {
     let status = match (outcome, state) {
         (Outcome::Asks, _) => INTER_SEGMENT_TIMEOUT,
         (_, State::Complete) => RECEIVED,
@@ -92,19 +114,18 @@ pub fn response(outcome: Outcome, state: State, map: Map) -> [u8; layout::RESPON
     octets.extend(map.entries.to_be_bytes());
     octets.extend(map.marks.iter().flat_map(|word| word.to_be_bytes()));
     octets.extend(flagged(map.lists.then_some(SUPPORTED)));
-    octets.try_into().expect("the octets of a RESPONSE")
+    octets.extend(figures(map).iter().flat_map(|figure| figure.to_be_bytes()));
+    octets
+        .try_into()
+        .expect("the octets of a RESPONSE and two figures")
 }
 
 /// RECEPTION of a receive, REPLY of an advance; a cancel has no answer.
-pub fn answer(
-    kind: Kind,
-    response: Option<[u8; layout::RESPONSE]>,
-    message: Option<u64>,
-) -> Vec<u8> {
+pub fn answer(kind: Kind, reported: Option<Reported>, message: Option<u64>) -> Vec<u8> {
     match kind {
         Kind::Cancel => Vec::new(),
-        Kind::Advance => flagged(response),
-        _ => [flagged(response), flagged(message.map(u64::to_be_bytes))].concat(),
+        Kind::Advance => flagged(reported),
+        _ => [flagged(reported), flagged(message.map(u64::to_be_bytes))].concat(),
     }
 }
 
@@ -138,14 +159,15 @@ impl Bench<'_> {
             _ => 0,
         };
         if number == 0 {
-            let response = map.map(|map| response(outcome, self.record.state, map));
-            let answer = answer(call.kind, response, message);
+            let reported = map.map(|map| reported(outcome, self.record.state, map));
+            let answer = answer(call.kind, reported, message);
             wanted.answer = at_front(&answer, wanted.answer.len());
         }
         let given = self.lent.call(&call, &data);
         let differences = self.lent.differences(&wanted);
         let none = <[Option<String>; 4]>::default();
         self.group.case((given, differences), (number, none));
+        self.figures = self.lent.answer[FIGURES].to_vec();
         // The next call is made on what had to be left, so that a case that differs does not spoil the others.
         self.lent = wanted;
     }
@@ -197,6 +219,7 @@ impl Bench<'_> {
                 let given = self.lent.record[NOTED].to_vec();
                 self.group.case(given, wanted);
             }
+            Row::Figures(wanted) => self.group.case(&self.figures[..], &wanted[..]),
             Row::Wrong => {
                 self.step(later(1, 1, 5_000).refused(62));
                 self.step(advance(5_000).refused(62));
@@ -215,6 +238,7 @@ pub fn run(group: &mut Group, tables: &[&[Row]]) {
             seed: 0,
             record: Record::new(OWN, TRANSACTION, 1, 0, 0),
             lent: Lent::new(),
+            figures: Vec::new(),
         };
         for row in *table {
             bench.step(*row);

@@ -1,7 +1,7 @@
 //! Trains in one call. A train stops behind a segment whose reception carries a response or a message, or closes the receiver, with 0 and how
 //! many segments were received; at a refusal it stops with that. Each call is made on what the call before it left.
 
-use super::bench::{Lent, SLOT, answer, response};
+use super::bench::{Lent, SLOT, answer, reported};
 use super::record::Record;
 use super::rows::*;
 use crate::octets::{FILL, at_front, hex, refusal};
@@ -126,7 +126,7 @@ impl<'a> Bench<'a> {
                 Outcome::Fails(_) | Outcome::Expires => wanted.store[..layout::STORE].fill(0),
                 _ => {}
             }
-            carried.0 = map.map(|map| response(outcome, self.record.state, map));
+            carried.0 = map.map(|map| reported(outcome, self.record.state, map));
             if let Outcome::HandsOver = outcome {
                 wanted.output[..message.len()].copy_from_slice(&message);
                 carried.1 = Some(message.len() as u64);

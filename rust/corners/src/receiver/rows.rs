@@ -58,6 +58,8 @@ pub enum Row {
     Make(fn(&mut Record)),
     /// This end, these services and this stated length have to stand in the record.
     Keeps(Option<u8>, Services, Option<u16>),
+    /// These octets have to stand where the last answer has the figures of a response's map.
+    Figures([u8; 4]),
     /// Each of receive, advance and cancel has to give 62.
     Wrong,
     /// A call, its outcome, and the map of the response where there is one.
@@ -283,6 +285,11 @@ impl Row {
             }
             other => other,
         }
+    }
+
+    /// A map with these marks.
+    pub const fn marks(self, entries: u16, marks: [u64; 4]) -> Self {
+        self.answered(entries, marks, false)
     }
 
     /// A map with the marks of the first 64 entries.

@@ -1,4 +1,4 @@
--- `respond` meets its contract: nothing under Prohibited, else the map up to its last entry. Assumes nothing.
+-- `respond` meets its contract: nothing under Prohibited, else the map up to its last entry, with its figures. Assumes nothing.
 use borrow.Author.Needs.{needs}
 use mathlib.Core.Path.{_∙_, sym}
 use Rattle.receiver.proofs.replies.respond.Statement.{statement}
@@ -17,7 +17,7 @@ map-of-requires : tie.Need-map-of-requires
 map-of-requires c κs = search needs
 
 returns-2 : tie.Need-returns-2
-returns-2 c = rw (sym (c .before .before .before .before .prohibited .ensures) ∙ c .before .before .before .if1 .left, c .map-of .ensures, c .before .last-entry .ensures)
+returns-2 c = rw (sym (c .before .before .before .before .before .before .prohibited .ensures) ∙ c .before .before .before .before .before .if1 .left, c .before .before .map-of .ensures, c .before .before .before .last-entry .ensures)
 
 pub respond-spec : {M : Type 1} → statement M
 respond-spec =

@@ -1,6 +1,7 @@
 -- `response::AcknowledgmentMap::try_new` meets its contract: the length is refused, or the map is that of its builder. Assumes nothing.
 use mathlib.Core.Path.{sym, _∙_}
 use borrow.Author.Needs.{needs}
+use Rattle.response.specs.MissingEntries.{not-refused}
 use Rattle.response.proofs.AcknowledgmentMap.try_new.Statement.{statement}
 use Rattle.response.proofs.AcknowledgmentMap.try_new.Tie as tie
 
@@ -11,7 +12,8 @@ returns : tie.Need-returns
 returns c = simp (sym (c .before .map-length-refused .ensures) ∙ c .if1 .taken)
 
 first-entries-requires : tie.Need-first-entries-requires
-first-entries-requires c κs = search needs
+first-entries-requires c κs =
+    not-refused (c .before .before .args .bit-count) (sym (c .before .map-length-refused .ensures) ∙ c .if1 .left)
 
 returns-2 : tie.Need-returns-2
 returns-2 c = simp (sym (c .before .before .map-length-refused .ensures) ∙ c .before .if1 .left, c .first-entries .ensures)

@@ -5,9 +5,8 @@ use mathlib.Core.Bool.{Bool, _&&_}
 use lib.Dec.{ltb}
 use Rattle.words.specs.Marks.{marked}
 use Rattle.words.specs.Laws.{wordsOf-ext}
-use Rattle.sender.specs.Steps.{isReceived}
 use Rattle.sender.proofs.Marking.{made, change, received-is}
-use Rattle.response.specs.Responses.{entryAt}
+use Rattle.response.specs.Responses.{entryAt, isReceived}
 use Rattle.sender.proofs.marks.marked_received.Statement.{statement}
 use Rattle.sender.proofs.marks.marked_received.Tie as tie
 
