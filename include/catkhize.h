@@ -452,7 +452,14 @@ uint32_t catkhize_try_from_frozen(
  *
  * One record for each transaction that is received, and a store of at least CATKHIZE_STORE_OCTETS that
  * goes with it from call to call. What the store holds before the first call does not matter. Failure,
- * expiry and cancelling set the store's first CATKHIZE_STORE_OCTETS octets to 0.
+ * expiry, cancelling and release set the store's first CATKHIZE_STORE_OCTETS octets to 0. A hand-over does
+ * not: a Complete receiver compares repeats with what its store holds.
+ *
+ * When to release. Before a store is lent on, the receiver that it went with is closed:
+ * catkhize_receiver_cancel closes one that is AwaitingBegin or Receiving, catkhize_receiver_release one
+ * that is Complete. Each is refused with 38 in the other's states, so a caller that gives a position up
+ * reads the record's state and calls the one that goes with it. One that is Failed, Expired or Canceled
+ * has set its store to 0 already, and both are refused with 38.
  *
  * When to advance. Nothing happens between calls. While a deadline runs (the record's flag and number;
  * each segment that is taken and leaves the receiver open sets it to 300,000 ms after its reading), call
@@ -500,8 +507,17 @@ uint32_t catkhize_receiver_advance(
     uint64_t reading,
     uint8_t *answer, size_t answer_octets); /* REPLY */
 
-/* Ends an open reception. */
+/* Ends an open reception: AwaitingBegin or Receiving. In any other state it is refused with 38. */
 uint32_t catkhize_receiver_cancel(
+    uint8_t *record, size_t record_octets, /* RECEIVER */
+    uint8_t *store, size_t store_octets,
+    uint64_t reading);
+
+/* Closes a Complete receiver as cancelling does an open one: the store becomes 0, no segment is held any
+ * more, the reading is taken and the state is Canceled. In any other state it is refused with 38. A repeat
+ * that comes after it is refused with 38 and not answered. The output is not lent to it: a message that
+ * was handed over stays there. */
+uint32_t catkhize_receiver_release(
     uint8_t *record, size_t record_octets, /* RECEIVER */
     uint8_t *store, size_t store_octets,
     uint64_t reading);

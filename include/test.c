@@ -289,6 +289,84 @@ static void test_receiver_time(void) {
     CHECK(receive(segment, message, 1, 300000) == CATKHIZE_REFUSED_CLOSED);
 }
 
+static uint8_t record_before[CATKHIZE_RECEIVER_OCTETS];
+static uint8_t store_before[sizeof store];
+
+static void remember(void) {
+    memcpy(record_before, record, sizeof record);
+    memcpy(store_before, store, sizeof store);
+}
+
+/* Record and store are as they were remembered. */
+static int as_before(void) { return memcmp(record, record_before, sizeof record) == 0 && memcmp(store, store_before, sizeof store) == 0; }
+
+static uint32_t release(uint64_t reading) { return catkhize_receiver_release(record, sizeof record, store, sizeof store, reading); }
+
+/* A Complete receiver at the reading 2000, whose parts are of 4 and 3 octets. Before that it cannot be released. */
+static void complete_receiver(const uint8_t *begin, const uint8_t *end) {
+    new_receiver(1000);
+    remember();
+    CHECK(release(1000) == CATKHIZE_REFUSED_CLOSED && as_before());
+    CHECK(receive(begin, message, 4, 1000) == CATKHIZE_DONE);
+    CHECK(record[CATKHIZE_RECEIVER_AT_STATE] == CATKHIZE_RECEIVER_RECEIVING);
+    remember();
+    CHECK(release(1500) == CATKHIZE_REFUSED_CLOSED && as_before());
+    CHECK(release(999) == CATKHIZE_REFUSED_CLOCK_REGRESSION && as_before());
+    CHECK(receive(end, message + 4, 3, 2000) == CATKHIZE_DONE);
+    CHECK(record[CATKHIZE_RECEIVER_AT_STATE] == CATKHIZE_RECEIVER_COMPLETE);
+    CHECK(memcmp(store, message, 4) == 0 && untouched(store + 4, 251) && memcmp(store + 255, message + 4, 3) == 0);
+    CHECK(untouched(store + 258, sizeof store - 258));
+}
+
+/* What a release is refused with, on a Complete receiver: 256, 257, 60, 62, 33, each before the next. */
+static void test_release_refused(void) {
+    uint8_t begin[CATKHIZE_SEGMENT_OCTETS], end[CATKHIZE_SEGMENT_OCTETS];
+    begin_of(begin, 2, CATKHIZE_WINDOW_LAST);
+    segment_of(end, 2, 1, CATKHIZE_KIND_END);
+    complete_receiver(begin, end);
+    remember();
+    CHECK(release(1999) == CATKHIZE_REFUSED_CLOCK_REGRESSION && as_before());
+    CHECK(catkhize_receiver_release(record, sizeof record, store, CATKHIZE_STORE_OCTETS - 1u, 2000) == CATKHIZE_REFUSED_STORE_TOO_SHORT && as_before());
+    CHECK(catkhize_receiver_release(record, sizeof record - 1, store, sizeof store, 2000) == CATKHIZE_REFUSED_BUFFER_TOO_SHORT && as_before());
+    record[CATKHIZE_RECEIVER_AT_STORED_OCTETS + 7] = 8;
+    remember();
+    CHECK(release(1999) == CATKHIZE_REFUSED_IMPOSSIBLE_STATE && as_before());
+    CHECK(catkhize_receiver_release(record, sizeof record, store, CATKHIZE_STORE_OCTETS - 1u, 1999) == CATKHIZE_REFUSED_STORE_TOO_SHORT && as_before());
+    record[0] = 0;
+    remember();
+    CHECK(catkhize_receiver_release(record, sizeof record, store, CATKHIZE_STORE_OCTETS - 1u, 1999) == CATKHIZE_REFUSED_BUFFER_SPELLS_NONE && as_before());
+    CHECK(catkhize_receiver_release(record, sizeof record - 1, store, 0, 1999) == CATKHIZE_REFUSED_BUFFER_TOO_SHORT && as_before());
+}
+
+/* What a release leaves, and what comes after it. */
+static void test_release(void) {
+    uint8_t begin[CATKHIZE_SEGMENT_OCTETS], end[CATKHIZE_SEGMENT_OCTETS], other[CATKHIZE_SEGMENT_OCTETS];
+    begin_of(begin, 2, CATKHIZE_WINDOW_LAST);
+    segment_of(end, 2, 1, CATKHIZE_KIND_END);
+    segment_of(other, 2, 2, CATKHIZE_KIND_CONTINUE);
+    complete_receiver(begin, end);
+    CHECK(receive(end, message + 4, 3, 2000) == CATKHIZE_DONE && says(answer, CATKHIZE_STATUS_RECEIVED, 2, 0, CATKHIZE_NONE_MISSING));
+    remember();
+    CHECK(catkhize_receiver_cancel(record, sizeof record, store, sizeof store, 3000) == CATKHIZE_REFUSED_CLOSED && as_before());
+    CHECK(release(3000) == CATKHIZE_DONE);
+    CHECK(zero(store, CATKHIZE_STORE_OCTETS) && untouched(store + CATKHIZE_STORE_OCTETS, 8));
+    CHECK(memcmp(output, message, 7) == 0 && untouched(output + 7, sizeof output - 7));
+    CHECK(record[CATKHIZE_RECEIVER_AT_STATE] == CATKHIZE_RECEIVER_CANCELED);
+    CHECK(catkhize_get64(record + CATKHIZE_RECEIVER_AT_LAST_READING) == 3000u);
+    CHECK(zero(record + CATKHIZE_RECEIVER_AT_STORED_OCTETS, 8) && zero(record + CATKHIZE_RECEIVER_AT_DEADLINE_RUNS, 9));
+    CHECK(zero(record + CATKHIZE_RECEIVER_AT_HELD, CATKHIZE_RECEIVER_OCTETS - CATKHIZE_RECEIVER_AT_HELD));
+    CHECK(memcmp(record, record_before, CATKHIZE_RECEIVER_AT_STATE) == 0);
+    CHECK(memcmp(record + CATKHIZE_RECEIVER_AT_STATUS, record_before + CATKHIZE_RECEIVER_AT_STATUS, CATKHIZE_RECEIVER_AT_STORED_OCTETS - CATKHIZE_RECEIVER_AT_STATUS) == 0);
+
+    /* A repeat, one that differs, a segment that was not held, a second release, a cancel. */
+    remember();
+    CHECK(receive(end, message + 4, 3, 3000) == CATKHIZE_REFUSED_CLOSED && untouched(answer, sizeof answer) && as_before());
+    CHECK(receive(end, message + 3, 3, 3000) == CATKHIZE_REFUSED_CLOSED && untouched(answer, sizeof answer) && as_before());
+    CHECK(receive(other, message, 1, 4000) == CATKHIZE_REFUSED_CLOSED && untouched(answer, sizeof answer) && as_before());
+    CHECK(release(4000) == CATKHIZE_REFUSED_CLOSED && as_before());
+    CHECK(catkhize_receiver_cancel(record, sizeof record, store, sizeof store, 4000) == CATKHIZE_REFUSED_CLOSED && as_before());
+}
+
 /* Segments of one octet each, the octet their sequence number, under Every4 and with End 5. */
 static uint32_t receive_one(uint8_t sequence, uint64_t reading) {
     uint8_t segment[CATKHIZE_SEGMENT_OCTETS];
@@ -533,6 +611,8 @@ static void run(void) {
     test_frozen();
     test_receiver();
     test_receiver_time();
+    test_release_refused();
+    test_release();
     test_figures();
     test_train();
     test_train_goes_on();

@@ -263,7 +263,7 @@ error('r34 the reading of a refused advance is taken', M, '''            Check::
                     },
                 }
             }''')
-error('r35 cancelling a complete receiver', C, 'if either(awaiting(state), receiving(state)) {', 'if taking(state) {')
+error('r35 cancelling a complete receiver', M, 'let allowed = either(awaiting(state), receiving(state));', 'let allowed = crate::states::taking(state);')
 error('r36 failure forgets the stated length', B, '''    let message_length = standing.message_length;
     Progress {
         state,''', '''    let message_length = tsar::MessageLength::Unstated;
@@ -286,6 +286,39 @@ error('r48 the two figures exchanged', N, '''            put16(dst, at + FIGURES
             put16(dst, at + FIGURES + FIGURE_OCTETS, missing.count);''')
 error('r49 the first missing entry written lowest octet first', N, 'missing.first);', 'missing.first % 256 * 256 + missing.first / 256);')
 error('r50 octets of the figures left as they were where there is no response', N, 'let none = [0u8; REPLY_OCTETS];', 'let none = [0u8; FIGURES];')
+error('r51 a release that leaves the store', M, '''                wipe(store);
+                let standing''', '''                if !complete(progress.state) {
+                    wipe(store);
+                }
+                let standing''')
+error('r52 a release that leaves the length of a slot', M, '''                let receiver = emptied(terms, next);
+                Cancel {''', '''                let mut receiver = emptied(terms, next);
+                if complete(progress.state) {
+                    receiver.lengths[1] = self.lengths[1];
+                }
+                Cancel {''')
+error('r53 releasing while Receiving', M, 'let allowed = complete(state);', 'let allowed = either(complete(state), receiving(state));')
+error('r54 releasing in no state', M, 'let allowed = complete(state);', 'let allowed = false;')
+error('r55 a release that takes no reading', M, 'ReceiverState::Canceled, monotonic_ms);', 'ReceiverState::Canceled, if complete(progress.state) { last } else { monotonic_ms });')
+error('r56 a released receiver that stays Complete', M, 'let next = closed_progress(standing, ReceiverState::Canceled, monotonic_ms);', '''let state = if complete(progress.state) {
+                    ReceiverState::Complete
+                } else {
+                    ReceiverState::Canceled
+                };
+                let next = closed_progress(standing, state, monotonic_ms);''')
+error('r57 33 before 62 in a release', M, 'let allowed = complete(state);', '''let allowed = complete(state);
+        if STORE_OCTETS <= store.len() && monotonic_ms < progress.last_monotonic_ms {
+            return Cancel {
+                answer: CancelAnswer::Refused(crate::ReceiveError::ClockRegression),
+                receiver: self,
+            };
+        }''')
+error('r58 a release that wipes past 65,280', M, '''                wipe(store);
+                let standing''', '''                wipe(store);
+                if complete(progress.state) {
+                    octets::wipe(store, store.len());
+                }
+                let standing''')
 
 # ---- sender
 K, J, U, V, X, Y = ('sender/src/' + f for f in ('checks.rt', 'marks.rt', 'steps.rt', 'turns.rt', 'lib.rt', 'plans.rt'))

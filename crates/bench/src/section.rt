@@ -9,16 +9,24 @@ use crate::session::Store;
 use crate::session::more;
 use capture::text::from;
 use capture::text::front;
+use codec_c::codes::DONE;
 use report::answer::say_failed_after;
 use report::answer::say_names;
 use report::answer::say_standing;
+use report::outcome::Event;
 use report::outcome::Handed;
 use report::outcome::Summary;
 use report::outcome::Told;
 use report::outcome::end_section;
 use report::outcome::is_rebuilt;
+use report::outcome::note;
 use report::row::say_row;
 use report::say;
+ghost use mathlib.Core.Path.{_≡_};
+ghost use mathlib.Core.Bool.{_&&_};
+ghost use lib.Dec.{eqb};
+ghost use Rattle.octets.specs.Octets.{sameOctets};
+ghost use Rattle.bench.specs.Closing.{closeCall, endedBefore, zeros, leftTo};
 
 // Every octet of the store and of the output before the first call.
 pub const FILL: u8 = 0xA5;
@@ -117,7 +125,9 @@ fn say_lost(form: usize) {
 }
 
 // Ends the section that there is. What comes before the first receiver line is one where a line of it was refused.
-pub fn close(told: Told, counts: &mut Counts, memory: &Memory, output: &Store) -> Told {
+pub fn close(told: Told, counts: &mut Counts, memory: &Memory, output: &Store) -> Told
+    ensures { λ r. ⌜ r ≡ endedBefore told (now (memory .entry)) ⌝ }
+{
     let s = told.section;
     if memory[session::OPENED] != 0 {
         say_result(s, counts, memory, output);
@@ -142,6 +152,34 @@ pub fn finish(told: Told, counts: &mut Counts, memory: &Memory, output: &Store) 
     close(told, counts, memory, output)
 }
 
+// Whether a receiver was closed and has left a store that is 0 throughout.
+fn is_wiped(code: u32, store: &Store) -> bool
+    ensures { λ r. ⌜ r ≡ (eqb code 0 && sameOctets (now (store .entry)) zeros) ⌝ }
+{
+    if code != DONE {
+        return false;
+    }
+    let zeros = [0u8; STORE];
+    octets::same(store, &zeros)
+}
+
+// Closes the receiver of the section that has ended, so that nothing of it is left in the store. This is no line of the capture: only a
+// store that is not wiped is said, and counts as a section that is not rebuilt. The store is as closing left it.
+fn leave(told: Told, counts: &Counts, memory: &mut Memory, store: &mut Store) -> Told
+    ensures { λ r. ⌜ (r ≡ leftTo told (now (memory .entry)) (now (store .entry))) × (now (store .exit) ≡ closeCall (now (memory .entry)) (now (store .entry)) .store) ⌝ }
+{
+    if memory[0] == 0 {
+        return told;
+    }
+    let code = session::close_receiver(memory, store);
+    if is_wiped(code, store) {
+        return told;
+    }
+    say::say(say::NOT_WIPED, counts[session::SECTIONS], 0);
+    say::end_line();
+    end_section(note(told, Event::BadLine))
+}
+
 // Store and output as before the first call, where a receiver has used them.
 fn refill(memory: &Memory, store: &mut Store, output: &mut Store) {
     if memory[0] != 0 {
@@ -158,8 +196,11 @@ pub fn begin(
     memory: &mut Memory,
     store: &mut Store,
     output: &mut Store,
-) -> Told {
-    let next = close(told, counts, memory, output);
+) -> Told
+    ensures { λ r. ⌜ r ≡ leftTo (endedBefore told (now (memory .entry))) (now (memory .entry)) (now (store .entry)) ⌝ }
+{
+    let ended = close(told, counts, memory, output);
+    let next = leave(ended, counts, memory, store);
     refill(memory, store, output);
     octets::wipe(memory, MEMORY);
     memory[session::OPENED] = 1;

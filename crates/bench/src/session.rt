@@ -4,6 +4,7 @@ use capture::line::Header;
 use capture::text::from;
 use capture::text::front;
 use codec_c::catkhize_decode;
+use codec_c::codes::DONE;
 use image::cases::protocol_number;
 use image::cases::protocol_octet;
 use image::numbers::put64;
@@ -11,6 +12,7 @@ use receiver_c::catkhize_receiver_advance;
 use receiver_c::catkhize_receiver_cancel;
 use receiver_c::catkhize_receiver_new;
 use receiver_c::catkhize_receiver_receive;
+use receiver_c::catkhize_receiver_release;
 use report::answer::say_answer;
 use report::answer::say_names;
 use report::answer::say_reception;
@@ -18,7 +20,11 @@ use report::answer::say_refused;
 use report::answer::say_refused_segment;
 use report::answer::say_segment;
 use report::layout;
+use report::layout::CANCELED;
+use report::layout::EXPIRED;
+use report::layout::FAILED;
 use report::layout::number_at;
+use report::layout::octet;
 use report::marks::MARKS_OCTETS;
 use report::marks::top;
 use report::outcome::Event;
@@ -26,6 +32,13 @@ use report::outcome::call_event;
 use report::reason::reason_of;
 use report::say;
 use tsar::HEADER_OCTETS;
+ghost use mathlib.Core.Path.{_≡_};
+ghost use mathlib.Core.Bool.{not};
+ghost use mathlib.Core.List.{[]};
+ghost use Rattle.receiver.specs.Record.{taking};
+ghost use Rattle.receiver_image.specs.Parts.{stateFrom};
+ghost use Rattle.receiver_c.specs.Calls.{call};
+ghost use Rattle.bench.specs.Closing.{closeCall};
 
 // What is kept behind RECEIVER: the marks that were last held; the reading of the last segment that was taken, behind a flag; why the
 // reception failed and at which line, as four numbers; whether a receiver line opened the section, and whether it could be read.
@@ -216,6 +229,39 @@ pub fn wait(counts: &mut Counts, memory: &mut Memory, store: &mut Store) -> Even
     let deadline = number_at(memory, layout::DEADLINE + 1);
     say::say(say::BENCH, deadline, counts[LINES]);
     advanced(deadline, counts, memory, store)
+}
+
+// ---- between sections
+
+// Whether the state of a number takes no segments.
+fn is_closed(state: u8) -> bool
+    ensures { λ r. ⌜ r ≡ not (taking (stateFrom state 0)) ⌝ }
+{
+    match state {
+        FAILED => true,
+        EXPIRED => true,
+        CANCELED => true,
+        _ => false,
+    }
+}
+
+// Closes the receiver of a section that has ended, at its own last reading: the next line's may be lower. One that is Complete is released,
+// one that still waits for segments is canceled.
+pub fn close_receiver(memory: &mut [u8], store: &mut [u8]) -> u32
+    ensures { λ r. ⌜ call r (now (memory .exit)) (now (store .exit)) [] [] ≡ closeCall (now (memory .entry)) (now (store .entry)) ⌝ }
+{
+    if octet(memory, 0) == 0 {
+        return DONE;
+    }
+    let last = number_at(memory, layout::LAST_READING);
+    let state = octet(memory, layout::STATE);
+    if state == layout::COMPLETE {
+        return catkhize_receiver_release(memory, store, last);
+    }
+    if is_closed(state) {
+        return DONE;
+    }
+    catkhize_receiver_cancel(memory, store, last)
 }
 
 // ---- segments

@@ -1,7 +1,7 @@
 // The receiver. Its record is RECEIVER; record, store and output are lent to each call.
 ghost use mathlib.Core.Path.{_≡_};
 ghost use mathlib.Core.List.{[]};
-ghost use Rattle.receiver_c.specs.Calls.{call, newCall, receiveCall, advanceCall, cancelCall};
+ghost use Rattle.receiver_c.specs.Calls.{call, newCall, receiveCall, advanceCall, cancelCall, releaseCall};
 
 // Makes a receiver of one transaction with a peer. The record is put into record.
 #[no_mangle]
@@ -88,4 +88,16 @@ pub extern "C" fn catkhize_receiver_cancel(record: &mut [u8], store: &mut [u8], 
     ensures { λ r. ⌜ call r (now («record» .exit)) (now (store .exit)) [] [] ≡ cancelCall (now («record» .entry)) (now (store .entry)) reading ⌝ }
 {
     receiver_c::catkhize_receiver_cancel(record, store, reading)
+}
+
+// Releases the store of a complete reception.
+#[no_mangle]
+pub extern "C" fn catkhize_receiver_release(
+    record: &mut [u8],
+    store: &mut [u8],
+    reading: u64,
+) -> u32
+    ensures { λ r. ⌜ call r (now («record» .exit)) (now (store .exit)) [] [] ≡ releaseCall (now («record» .entry)) (now (store .entry)) reading ⌝ }
+{
+    receiver_c::catkhize_receiver_release(record, store, reading)
 }

@@ -13,7 +13,7 @@ use Rattle.tsar.specs.declared.MessageLength.the-variants.{Stated}
 use Rattle.receiver.specs.Record.{isHeld, kindAt, lengthAt, part, receivingOrComplete}
 use Rattle.receiver.specs.Answers.{Answer, refused, answered, Step}
 use Rattle.receiver.specs.Receive.{Arrival, sequence, receiveOf}
-use Rattle.receiver.specs.Advance.{Made, advanceOf, cancelOf}
+use Rattle.receiver.specs.Advance.{Made, advanceOf, cancelOf, releaseOf}
 use Rattle.receiver.specs.declared.Terms.{Terms}
 use Rattle.receiver.specs.declared.ReceiverState.{ReceiverState}
 use Rattle.receiver.specs.declared.ReceiverState.the-variants.{AwaitingBegin, Receiving, Complete, Failed, Expired, Canceled}
@@ -24,16 +24,18 @@ pub data Call : Type 0 where
   receive : Arrival → List ℕ → Call
   advance : ℕ → Call
   cancel : ℕ → Call
+  release : ℕ → Call
 
 -- what a call on some receiver answers and leaves, given its record and the store
 abbrev pub StepFunction : Type 0
 StepFunction = Receiver → List ℕ → Call → Step
 
--- that of our receiver: the definitions that the contracts of receive, advance and cancel cite
+-- that of our receiver: the definitions that the contracts of receive, advance, cancel and release cite
 abbrev pub stepOf : ℕ → StepFunction
 stepOf interval r store (receive a out) = receiveOf interval r a store out
 stepOf interval r store (advance n) = advanceOf r store n
 stepOf interval r store (cancel n) = cancelOf r store n
+stepOf interval r store (release n) = releaseOf r store n
 
 -- what some try_new gives for terms and a reading; tryNewOf is ours
 abbrev pub TryNewFunction : Type 0
@@ -44,6 +46,7 @@ abbrev pub FitsTypes : Call → Type 0
 FitsTypes (receive a out) = sequence a < 256
 FitsTypes (advance n) = Unit {0}
 FitsTypes (cancel n) = Unit {0}
+FitsTypes (release n) = Unit {0}
 
 abbrev pub AllFitTypes : List Call → Type 0
 AllFitTypes [] = Unit {0}
@@ -81,6 +84,7 @@ addAccepted (receive a out) st acc =
     cond (not (isRefused (st .answer)) && not (hasFailed (st .receiver .progress .state)) && absent (find (sequence a) acc)) (brought a ∷ acc) acc
 addAccepted (advance n) st acc = acc
 addAccepted (cancel n) st acc = acc
+addAccepted (release n) st acc = acc
 
 -- a message that was handed over, how many octets the answer counted, and the segments accepted by then
 pub record HandOver : Type 0 where

@@ -11,7 +11,7 @@ use Rattle.receiver.specs.Record.{storeOctets}
 use Rattle.receiver.specs.Answers.{Step}
 use Rattle.receiver.specs.Receive.{Arrival, sequence, kind}
 use Rattle.receiver.specs.declared.Terms.{Terms}
-use Rattle.delivery.specs.Calls.{Call, receive, advance, cancel, carried}
+use Rattle.delivery.specs.Calls.{Call, receive, advance, cancel, release, carried}
 
 -- a receive brings segment x: its type, sequence, parameters and data
 pub record Brings (x : WholeSegment) (a : Arrival) : Type 0 where
@@ -25,6 +25,7 @@ HasCome x [] = ⊥
 HasCome x (receive a out ∷ cs) = Brings x a ⊎ HasCome x cs
 HasCome x (advance n ∷ cs) = HasCome x cs
 HasCome x (cancel n ∷ cs) = HasCome x cs
+HasCome x (release n ∷ cs) = HasCome x cs
 
 -- every segment of the train has come
 abbrev pub AllHaveCome : ℕ → (ℕ → WholeSegment) → List Call → Type 0
@@ -35,6 +36,7 @@ abbrev pub reading : Call → ℕ
 reading (receive a out) = a .reading
 reading (advance n) = n
 reading (cancel n) = n
+reading (release n) = n
 
 -- the reading before the next call: that of the last call, or else try_new's
 abbrev pub lastReading : ℕ → List Call → ℕ
@@ -47,6 +49,7 @@ lastDelivery [] = none
 lastDelivery (receive a out ∷ cs) = some (a .reading)
 lastDelivery (advance n ∷ cs) = lastDelivery cs
 lastDelivery (cancel n ∷ cs) = lastDelivery cs
+lastDelivery (release n ∷ cs) = lastDelivery cs
 
 -- ---- the delivery conditions: of the calls alone, with try_new's arguments and the train. The calls before stand the latest first.
 module _ (interval : ℕ) (t : Terms) (made : ℕ) (count : ℕ) (segment : ℕ → WholeSegment) where
@@ -70,11 +73,12 @@ module _ (interval : ℕ) (t : Terms) (made : ℕ) (count : ℕ) (segment : ℕ 
     pub long-enough : min (t .«maximum_message_octets») storeOctets ≤ length out
     pub reading-meets : ReadingMeets before (a .reading)
 
-  -- no cancel
+  -- no cancel; a release may stand anywhere, and its reading is a reading like any other
   abbrev pub Meets : List Call → Call → Type 0
   Meets before (receive a out) = DeliveryMeets before a out
   Meets before (advance now′) = ReadingMeets before now′
   Meets before (cancel now′) = ⊥
+  Meets before (release now′) = ReadingMeets before now′
 
   -- of each of the calls cs, made in order after the calls before
   abbrev pub DeliveryConditions : List Call → List Call → Type 0

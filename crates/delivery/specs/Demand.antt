@@ -16,7 +16,7 @@ use Rattle.segmentation.specs.declared.PlannedSegment.the-variants as planned
 use Rattle.receiver.specs.Record.{storeOctets}
 use Rattle.receiver.specs.Answers.{Step, refused}
 use Rattle.receiver.specs.declared.Terms.{Terms}
-use Rattle.delivery.specs.Calls.{Call, receive, advance, cancel, Left, HandOver, StepFunction, TryNewFunction, start, after, AfterTheList, AllFitTypes}
+use Rattle.delivery.specs.Calls.{Call, receive, advance, cancel, release, Left, HandOver, StepFunction, TryNewFunction, start, after, AfterTheList, AllFitTypes}
 use Rattle.delivery.specs.Delivery.{Brings, DeliveryConditions, HandsOverExactly}
 
 -- what the call c answers and leaves, made after the calls that left w
@@ -68,6 +68,7 @@ abbrev pub BringsOf : ℕ → (ℕ → WholeSegment) → Call → Type 0
 BringsOf count segment (receive a out) = (i : ℕ) × (i < count) × Brings (segment i) a
 BringsOf count segment (advance n) = Unit {0}
 BringsOf count segment (cancel n) = Unit {0}
+BringsOf count segment (release n) = Unit {0}
 
 abbrev pub AllBringOf : ℕ → (ℕ → WholeSegment) → List Call → Type 0
 AllBringOf count segment [] = Unit {0}

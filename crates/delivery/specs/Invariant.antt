@@ -28,10 +28,10 @@ use Rattle.receiver.specs.Record.{taking, awaiting, receiving, complete, receiv
 use Rattle.receiver.specs.Answers.{Step}
 use Rattle.receiver.specs.Receive.{Arrival, sequence, kind, settle, kept, Stage, before, begun, noted, keeping, fails, repeats, keeps, finishes}
 use Rattle.receiver.specs.Advance.{empty, madeAfter, tryNewRows, tryNewOf, fires}
-use Rattle.delivery.specs.Calls.{Call, receive, advance, cancel, Left, find, absent, brought, total, HandOver, AllOfAccepted, start, stepOf, after, then, taken, FitsTypes, AllFitTypes}
+use Rattle.delivery.specs.Calls.{Call, receive, advance, cancel, release, Left, find, absent, brought, total, HandOver, AllOfAccepted, start, stepOf, after, then, taken, FitsTypes, AllFitTypes}
 use Rattle.delivery.specs.Demand.{FirstHalf}
 use Rattle.delivery.specs.Lists.{never, or-right, and-rest, sumTo-zero}
-use Rattle.delivery.specs.Rules.{Admitted, New, statedWith, endWith, countWith, fills, by-rules, by-receive, by-advance, by-cancel}
+use Rattle.delivery.specs.Rules.{Admitted, New, statedWith, endWith, countWith, fills, by-rules, by-receive, by-advance, by-cancel, by-release}
 use Rattle.delivery.specs.Body.{Body, BodyOf, body′, holds-at, free-absent, held-found}
 use Rattle.delivery.specs.Message.{of-accepted, full-after}
 
@@ -214,12 +214,12 @@ module _ (interval : ℕ) (t : Terms) (w : Left) (I : InvOf t w) (a : Arrival) (
       by-receive Next interval r a (w .store) o (λ n e. I) (λ A. closed-inv t w I Expired refl _ _ _) I
       (λ A. by-rules (λ out. Next (settle interval out r a (w .store) o)) r a (w .store) (λ st s n. failed st s) (repeated A) I (finished A) (λ N e. stored A N))
 
--- ---- advance and cancel
+-- ---- advance, cancel and release
 
 module _ (interval : ℕ) (t : Terms) (w : Left) (I : InvOf t w) (now′ : ℕ) where
   -- advance keeps it
   pub advance-inv : InvOf t (then (stepOf interval) w (advance now′))
-  advance-inv = by-advance (λ st. InvOf t (taken w (advance now′) st)) (w .receiver) (w .store) now′ (λ n e. I) (λ l b p e f. fired b p)
+  advance-inv = by-advance (λ st. InvOf t (taken w (advance now′) st)) (w .receiver) (w .store) now′ (λ n e. I) (λ K b p e f. fired b p)
     where
       fired : (b p : Bool) → InvOf t (taken w (advance now′) (fires b p (w .receiver) (w .store) now′))
       fired false p = I
@@ -228,13 +228,18 @@ module _ (interval : ℕ) (t : Terms) (w : Left) (I : InvOf t w) (now′ : ℕ) 
 
   -- cancel keeps it
   pub cancel-inv : InvOf t (then (stepOf interval) w (cancel now′))
-  cancel-inv = by-cancel (λ st. InvOf t (taken w (cancel now′) st)) (w .receiver) (w .store) now′ (λ n e. I) (λ l. closed-inv t w I Canceled refl _ _ _)
+  cancel-inv = by-cancel (λ st. InvOf t (taken w (cancel now′) st)) (w .receiver) (w .store) now′ (λ n e. I) (λ K s. closed-inv t w I Canceled refl _ _ _)
+
+  -- release keeps it
+  pub release-inv : InvOf t (then (stepOf interval) w (release now′))
+  release-inv = by-release (λ st. InvOf t (taken w (release now′) st)) (w .receiver) (w .store) now′ (λ n e. I) (λ K s. closed-inv t w I Canceled refl _ _ _)
 
 -- each call keeps it
 pub then-inv : (interval : ℕ) (t : Terms) (w : Left) (c : Call) → FitsTypes c → InvOf t w → InvOf t (then (stepOf interval) w c)
 then-inv interval t w (receive a o) h I = receive-inv interval t w I a o h
 then-inv interval t w (advance n) h I = advance-inv interval t w I n
 then-inv interval t w (cancel n) h I = cancel-inv interval t w I n
+then-inv interval t w (release n) h I = release-inv interval t w I n
 
 -- and every list of calls
 pub after-inv : (interval : ℕ) (t : Terms) (w : Left) (cs : List Call) → AllFitTypes cs → InvOf t w → InvOf t (after (stepOf interval) w cs)

@@ -1,8 +1,8 @@
 -- What a call leaves of the record and of what it is lent. Document 01: 'A refusal changes no state and no octet, except four late cases where
 -- advance has acted: receive's 38 under Prohibited, ..; and except receive's 38 for an unheld sequence when Complete, which takes the reading
 -- and changes nothing else. 37 changes nothing. .. Failure, expiry and cancelling wipe the store: its first 65,280 octets become 0. A newly held
--- segment of n octets changes the first n of its slot (255 octets a slot, in sequence). Output changes only in the octets written.' Over any
--- record, store and output: none need be reached. The other late cases are the sender's.
+-- segment of n octets changes the first n of its slot (255 octets a slot, in sequence). Output changes only in the octets written.' Document 02,
+-- 2026-07: a release wipes the store too. Over any record, store and output: none need be reached. The other late cases are the sender's.
 use Prim.Native.Nat.{ℕ, _+_, _*_, _≤_, _<_}
 use mathlib.Core.Path.{_≡_}
 use mathlib.Core.List.{List, []}
@@ -19,13 +19,14 @@ use Rattle.receiver.specs.Receive.{Arrival, sequence}
 use Rattle.receiver.specs.Advance.{advanceOf}
 use Rattle.receiver.specs.declared.ReceiverState.the-variants.{Expired}
 use Rattle.receiver.specs.declared.Receiver.{Receiver}
-use Rattle.delivery.specs.Calls.{Call, receive, advance, cancel, StepFunction, FitsTypes}
+use Rattle.delivery.specs.Calls.{Call, receive, advance, cancel, release, StepFunction, FitsTypes}
 
--- the output that a call is lent: advance and cancel are lent none
+-- the output that a call is lent: advance, cancel and release are lent none
 abbrev pub lent : Call → List ℕ
 lent (receive a out) = out
 lent (advance n) = []
 lent (cancel n) = []
+lent (release n) = []
 
 -- ---- refusals
 
@@ -59,6 +60,7 @@ abbrev pub Excepted : Receiver → List ℕ → Call → Refusal → Step → Ty
 Excepted r store (receive a out) n st = LateClosed r store a out n st ⊎ UnheldClosed r store a out n st
 Excepted r store (advance m) n st = ⊥
 Excepted r store (cancel m) n st = ⊥
+Excepted r store (release m) n st = ⊥
 
 -- a refusal changes no state and no octet, with two exceptions. One way only: where a call is refused, record and octets are as before, or one
 -- of the named cases holds; which of them it is, the definitions of the calls say
@@ -92,7 +94,8 @@ HeldFills step =
     (r : Receiver) (store : List ℕ) (a : Arrival) (out : List ℕ) → sequence a < 256 → NewlyHeld r a (step r store (receive a out))
     → Filled store a (step r store (receive a out) .store)
 
--- failure, expiry and cancelling: the receiver was open and is closed, and the first 65,280 octets are 0
+-- wiped: the receiver took segments and takes none, the first 65,280 octets are 0, and those past them and the length are as before; on which
+-- occasions, Occasions says
 pub record Wiped (r : Receiver) (store : List ℕ) (st : Step) : Type 0 where
   pub was-open : taking (r .progress .state) ≡ true
   pub is-closed : taking (st .receiver .progress .state) ≡ false
@@ -110,6 +113,7 @@ abbrev pub Fills : Receiver → List ℕ → Call → Step → Type 0
 Fills r store (receive a out) st = NewlyHeld r a st × Filled store a (st .store)
 Fills r store (advance m) st = ⊥
 Fills r store (cancel m) st = ⊥
+Fills r store (release m) st = ⊥
 
 -- the store is changed in no other way
 abbrev pub StoreLeft : StepFunction → Type 0

@@ -30,10 +30,10 @@ use Rattle.receiver.specs.declared.Receiver.{Receiver}
 use Rattle.receiver.specs.Record.{taking, awaiting, receiving, running, complete, late, due, slotOctets, storeOctets, isHeld, heldLength, part, wiped, fullWith, joined, faults, impossible}
 use Rattle.receiver.specs.Answers.{Answer, refused, answered, Step, refuses, lastEntry}
 use Rattle.receiver.specs.Receive.{Arrival, sequence, kind, receiveRows, slotRules, settle, lateOr, receiveAfter, receiveOf, Outcome, fails, repeats, closes, keeps, finishes}
-use Rattle.receiver.specs.Advance.{clockRows, fires, advanceAfter, advanceOf, cancelRows, cancelAfter, cancelOf}
-use Rattle.delivery.specs.Calls.{Call, receive, advance, cancel, stepOf, FitsTypes}
+use Rattle.receiver.specs.Advance.{clockRows, fires, advanceAfter, advanceOf, cancelOf, releaseOf}
+use Rattle.delivery.specs.Calls.{Call, receive, advance, cancel, release, stepOf, FitsTypes}
 use Rattle.delivery.specs.Lists.{never, holding, marked-here, marked-other, part-same}
-use Rattle.delivery.specs.Rules.{Admitted, New, endWith, fills, by-rules, by-receive, by-advance, by-cancel}
+use Rattle.delivery.specs.Rules.{Admitted, New, Clocked, endWith, fills, by-rules, by-receive, by-advance, by-cancel, by-release}
 use Rattle.delivery.specs.Leaves.{lent, Unchanged, LateClosed, UnheldClosed, Excepted, RefusedLeaves, TimerDueLeaves, Filled, NewlyHeld, HeldFills, Wiped, ClosedWipes, Fills, StoreLeft, handed, OutputLeft, HandedMost, Leaves}
 
 -- ---- refusals
@@ -59,7 +59,7 @@ closing r a store = by-rows (Closing r a) (slotRules r a store) keeps (
 )
 
 -- past the deadline is at or past it
-late-due : (d : Deadline) (n : ℕ) → late d n ≡ true → due d n ≡ true
+pub late-due : (d : Deadline) (n : ℕ) → late d n ≡ true → due d n ≡ true
 late-due deadline.Off n e = e
 late-due (deadline.At d) n e = le-leb d n (let h = ltb-true d n e in omega arith)
 
@@ -117,7 +117,7 @@ module _ (r : Receiver) (store : List ℕ) (m : ℕ) where
   Still c st = (n : Refusal) → st .answer ≡ refused n → Unchanged r store c st
 
   advance-left : Still (advance m) (advanceOf r store m)
-  advance-left = by-advance (Still (advance m)) r store m (λ n e k q. record { same-record = refl; same-store = refl; same-output = refl }) (λ l b p e f. fired b p)
+  advance-left = by-advance (Still (advance m)) r store m (λ n e k q. record { same-record = refl; same-store = refl; same-output = refl }) (λ K b p e f. fired b p)
     where
       fired : (b p : Bool) → Still (advance m) (fires b p r store m)
       fired false p n e = let z : _≡_ {A = ℕ} 0 1 = cc in absurd (omega arith)
@@ -127,12 +127,18 @@ module _ (r : Receiver) (store : List ℕ) (m : ℕ) where
   cancel-left : Still (cancel m) (cancelOf r store m)
   cancel-left =
       by-cancel (Still (cancel m)) r store m (λ n e k q. record { same-record = refl; same-store = refl; same-output = refl })
-      (λ l n e. let z : _≡_ {A = ℕ} 0 1 = cc in absurd (omega arith))
+      (λ K s n e. let z : _≡_ {A = ℕ} 0 1 = cc in absurd (omega arith))
+
+  release-left : Still (release m) (releaseOf r store m)
+  release-left =
+      by-release (Still (release m)) r store m (λ n e k q. record { same-record = refl; same-store = refl; same-output = refl })
+      (λ K s n e. let z : _≡_ {A = ℕ} 0 1 = cc in absurd (omega arith))
 
 refused-leaves : (interval : ℕ) → RefusedLeaves (stepOf interval)
 refused-leaves interval r store (receive a out) n e = receive-left interval r store a out n e
 refused-leaves interval r store (advance m) n e = inl (advance-left r store m n e)
 refused-leaves interval r store (cancel m) n e = inl (cancel-left r store m n e)
+refused-leaves interval r store (release m) n e = inl (release-left r store m n e)
 
 timer-due-leaves : (interval : ℕ) → TimerDueLeaves (stepOf interval)
 timer-due-leaves interval r store (receive a out) e =
@@ -146,6 +152,7 @@ timer-due-leaves interval r store (receive a out) e =
     not-37 q = absurd (omega (arith, ap (λ (x : Refusal). x .0) q))
 timer-due-leaves interval r store (advance m) e = advance-left r store m (37, 0) e
 timer-due-leaves interval r store (cancel m) e = cancel-left r store m (37, 0) e
+timer-due-leaves interval r store (release m) e = release-left r store m (37, 0) e
 
 -- ---- the store
 
@@ -195,57 +202,74 @@ module _ (interval : ℕ) (r : Receiver) (store : List ℕ) (a : Arrival) (out :
       (λ A. by-rules (λ o. FilledIf (settle interval o r a store out)) r a store (λ st s e p q. never _ (marked-none (sequence a)) q) (λ e p q. never _ p q) (λ p q. never _ p q)
       (λ N right f p q. filling store a out r A seq) (λ N f p q. filling store a out r A seq))
 
--- where a deadline is due, or cancel is not refused, the receiver is open
-due-open : (s : ReceiverState) (d : Deadline) (n : ℕ) → (not (receiving s) && running d) ≡ false → due d n ≡ true → taking s ≡ true
-due-open s deadline.Off n f e = never _ refl e
-due-open AwaitingBegin (deadline.At d) n f e = refl
-due-open Receiving (deadline.At d) n f e = refl
-due-open Complete (deadline.At d) n f e = refl
-due-open (Failed x) (deadline.At d) n f e = never _ f refl
-due-open Expired (deadline.At d) n f e = never _ f refl
-due-open Canceled (deadline.At d) n f e = never _ f refl
+-- where the record is possible a deadline runs in Receiving alone
+running-receiving : (s : ReceiverState) (d : Deadline) → (not (receiving s) && running d) ≡ false → running d ≡ true → receiving s ≡ true
+running-receiving s deadline.Off f e = never _ refl e
+running-receiving AwaitingBegin (deadline.At d) f e = never _ f refl
+running-receiving Receiving (deadline.At d) f e = refl
+running-receiving Complete (deadline.At d) f e = never _ f refl
+running-receiving (Failed x) (deadline.At d) f e = never _ f refl
+running-receiving Expired (deadline.At d) f e = never _ f refl
+running-receiving Canceled (deadline.At d) f e = never _ f refl
 
-cancel-open : (s : ReceiverState) → not (awaiting s || receiving s) ≡ false → taking s ≡ true
-cancel-open AwaitingBegin f = refl
-cancel-open Receiving f = refl
-cancel-open Complete f = refl
-cancel-open (Failed x) f = never _ f refl
-cancel-open Expired f = never _ f refl
-cancel-open Canceled f = never _ f refl
+due-running : (d : Deadline) (n : ℕ) → due d n ≡ true → running d ≡ true
+due-running deadline.Off n e = e
+due-running (deadline.At d) n e = refl
+
+-- so a receiver whose deadline is due is Receiving
+pub due-receiving : (r : Receiver) (n : ℕ) → impossible r ≡ false → due (r .progress .«deadline_monotonic_ms») n ≡ true → receiving (r .progress .state) ≡ true
+unfolding impossible
+due-receiving r n ok d =
+    running-receiving (r .progress .state) (r .progress .«deadline_monotonic_ms») (any-none (faults r) ok 6) (due-running (r .progress .«deadline_monotonic_ms») n d)
+
+pub or-yes : (x y : Bool) → y ≡ true → (x || y) ≡ true
+or-yes true y e = refl
+or-yes false y e = e
+
+-- one that can be canceled takes segments
+pub cancel-open : (s : ReceiverState) → (awaiting s || receiving s) ≡ true → taking s ≡ true
+cancel-open AwaitingBegin e = refl
+cancel-open Receiving e = refl
+cancel-open Complete e = refl
+cancel-open (Failed x) e = e
+cancel-open Expired e = e
+cancel-open Canceled e = e
+
+-- and so does one that can be released
+pub release-open : (s : ReceiverState) → complete s ≡ true → taking s ≡ true
+release-open AwaitingBegin e = refl
+release-open Receiving e = refl
+release-open Complete e = refl
+release-open (Failed x) e = e
+release-open Expired e = e
+release-open Canceled e = e
 
 module _ (r : Receiver) (store : List ℕ) (m : ℕ) where
-  fires-open : refusal (clockRows r store m) ≡ none → due (r .progress .«deadline_monotonic_ms») m ≡ true → taking (r .progress .state) ≡ true
-  unfolding impossible
-  fires-open e d = due-open (r .progress .state) (r .progress .«deadline_monotonic_ms») m (any-none (faults r) (refusal-none (clockRows r store m) e 1) 6) d
+  pub fires-open : Clocked r store m → due (r .progress .«deadline_monotonic_ms») m ≡ true → taking (r .progress .state) ≡ true
+  fires-open K d = cancel-open (r .progress .state) (or-yes (awaiting (r .progress .state)) (receiving (r .progress .state)) (due-receiving r m (K .possible) d))
 
   abbrev Kept : Step → Type 0
   Kept st = (st .store ≡ store) ⊎ (Wiped r store st ⊎ ⊥)
 
   advance-stored : Kept (advanceOf r store m)
-  unfolding advanceOf
-  advance-stored = go (refusal (clockRows r store m)) refl
+  advance-stored = by-advance Kept r store m (λ n e. inl refl) (λ K b p d f. fired K b p d)
     where
-      fired : refusal (clockRows r store m) ≡ none → (b p : Bool) → due (r .progress .«deadline_monotonic_ms») m ≡ b → Kept (fires b p r store m)
-      fired e false p d = inl refl
-      fired e true true d = inr (inl (wiping r store _ (fires-open e d) refl refl))
-      fired e true false d = inl refl
-
-      go : (v : Option Refusal) → refusal (clockRows r store m) ≡ v → Kept (advanceAfter v r store m)
-      go (some n) e = inl refl
-      go none e = fired e (due (r .progress .«deadline_monotonic_ms») m) (prohibited (r .progress .services .«acknowledgment_window»)) refl
+      fired : Clocked r store m → (b p : Bool) → due (r .progress .«deadline_monotonic_ms») m ≡ b → Kept (fires b p r store m)
+      fired K false p d = inl refl
+      fired K true true d = inr (inl (wiping r store _ (fires-open K d) refl refl))
+      fired K true false d = inl refl
 
   cancel-stored : Kept (cancelOf r store m)
-  unfolding cancelOf
-  cancel-stored = go (refusal (cancelRows r store m)) refl
-    where
-      go : (v : Option Refusal) → refusal (cancelRows r store m) ≡ v → Kept (cancelAfter v r store m)
-      go (some n) e = inl refl
-      go none e = inr (inl (wiping r store _ (cancel-open (r .progress .state) (refusal-none (cancelRows r store m) e 3)) refl refl))
+  cancel-stored = by-cancel Kept r store m (λ n e. inl refl) (λ K s. inr (inl (wiping r store _ (cancel-open (r .progress .state) s) refl refl)))
+
+  release-stored : Kept (releaseOf r store m)
+  release-stored = by-release Kept r store m (λ n e. inl refl) (λ K s. inr (inl (wiping r store _ (release-open (r .progress .state) s) refl refl)))
 
 store-left : (interval : ℕ) → StoreLeft (stepOf interval)
 store-left interval r store (receive a out) seq = receive-stored interval r store a out seq
 store-left interval r store (advance m) t = advance-stored r store m
 store-left interval r store (cancel m) t = cancel-stored r store m
+store-left interval r store (release m) t = release-stored r store m
 
 -- a call that closes the receiver
 closed-wipes : (interval : ℕ) → ClosedWipes (stepOf interval)
@@ -255,7 +279,7 @@ closed-wipes interval r store (receive a out) o =
   where
     Wipes : Step → Type 0
     Wipes st = taking (st .receiver .progress .state) ≡ false → Wiped r store st
-closed-wipes interval r store (advance m) o = by-advance Wipes r store m (λ n e p. never _ p o) (λ l b p e f. fired b p)
+closed-wipes interval r store (advance m) o = by-advance Wipes r store m (λ n e p. never _ p o) (λ K b p e f. fired b p)
   where
     Wipes : Step → Type 0
     Wipes st = taking (st .receiver .progress .state) ≡ false → Wiped r store st
@@ -265,7 +289,9 @@ closed-wipes interval r store (advance m) o = by-advance Wipes r store m (λ n e
     fired true true q = wiping r store _ o refl q
     fired true false q = never _ q o
 closed-wipes interval r store (cancel m) o =
-    by-cancel (λ st. taking (st .receiver .progress .state) ≡ false → Wiped r store st) r store m (λ n e p. never _ p o) (λ l p. wiping r store _ o refl p)
+    by-cancel (λ st. taking (st .receiver .progress .state) ≡ false → Wiped r store st) r store m (λ n e p. never _ p o) (λ K s p. wiping r store _ o refl p)
+closed-wipes interval r store (release m) o =
+    by-release (λ st. taking (st .receiver .progress .state) ≡ false → Wiped r store st) r store m (λ n e p. never _ p o) (λ K s p. wiping r store _ o refl p)
 
 held-fills : (interval : ℕ) → HeldFills (stepOf interval)
 held-fills interval r store a out seq h = receive-fills interval r store a out seq (h .was-free) (h .is-held)
@@ -285,13 +311,14 @@ output-left interval r store (receive a out) =
     by-receive (Output out) interval r a store out (λ n e. (refl, λ i h. refl)) (λ A. (refl, λ i h. refl)) (refl, λ i h. refl)
     (λ A. by-rules (λ o. Output out (settle interval o r a store out)) r a store (λ st s e. (refl, λ i h. refl)) (λ e. (refl, λ i h. refl)) (refl, λ i h. refl)
     (λ N right f. (length-sets out 0 (made r a store), λ i h. getD-sets-after out 0 (made r a store) i 0 (omega (arith, h)))) (λ N f. (refl, λ i h. refl)))
-output-left interval r store (advance m) = by-advance (Output []) r store m (λ n e. (refl, λ i h. refl)) (λ l b p e f. fired b p)
+output-left interval r store (advance m) = by-advance (Output []) r store m (λ n e. (refl, λ i h. refl)) (λ K b p e f. fired b p)
   where
     fired : (b p : Bool) → Output [] (fires b p r store m)
     fired false p = (refl, λ i h. refl)
     fired true true = (refl, λ i h. refl)
     fired true false = (refl, λ i h. refl)
-output-left interval r store (cancel m) = by-cancel (Output []) r store m (λ n e. (refl, λ i h. refl)) (λ l. (refl, λ i h. refl))
+output-left interval r store (cancel m) = by-cancel (Output []) r store m (λ n e. (refl, λ i h. refl)) (λ K s. (refl, λ i h. refl))
+output-left interval r store (release m) = by-release (Output []) r store m (λ n e. (refl, λ i h. refl)) (λ K s. (refl, λ i h. refl))
 
 -- ---- what is handed over
 
@@ -377,13 +404,14 @@ module _ (interval : ℕ) (r : Receiver) (store : List ℕ) (a : Arrival) (out :
 
 handed-most : (interval : ℕ) → HandedMost (stepOf interval)
 handed-most interval r store (receive a out) seq = receive-most interval r store a out seq
-handed-most interval r store (advance m) t = by-advance (λ st. handed (st .answer) ≤ storeOctets) r store m (λ n e. omega arith) (λ l b p e f. fired b p)
+handed-most interval r store (advance m) t = by-advance (λ st. handed (st .answer) ≤ storeOctets) r store m (λ n e. omega arith) (λ K b p e f. fired b p)
   where
     fired : (b p : Bool) → handed (fires b p r store m .answer) ≤ storeOctets
     fired false p = omega arith
     fired true true = omega arith
     fired true false = omega arith
-handed-most interval r store (cancel m) t = by-cancel (λ st. handed (st .answer) ≤ storeOctets) r store m (λ n e. omega arith) (λ l. omega arith)
+handed-most interval r store (cancel m) t = by-cancel (λ st. handed (st .answer) ≤ storeOctets) r store m (λ n e. omega arith) (λ K s. omega arith)
+handed-most interval r store (release m) t = by-release (λ st. handed (st .answer) ≤ storeOctets) r store m (λ n e. omega arith) (λ K s. omega arith)
 
 -- what any call on our receiver leaves, for any interval
 pub leaves : (interval : ℕ) → Leaves (stepOf interval)

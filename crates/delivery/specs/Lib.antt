@@ -1,6 +1,11 @@
+-- Demand 3 (Calls, Delivery, Demand), what a call leaves (Leaves) and the occasions on which a store is wiped (Occasions) are statements. The other
+-- files are laws and proofs: of demand 3 up to Refuted, Left of Leaves, Wiping and OccasionsRefuted of Occasions, AfterRelease of what a release gives
+-- and leaves.
 pub mod Calls
 pub mod Delivery
 pub mod Demand
+pub mod Leaves
+pub mod Occasions
 pub mod Lists
 pub mod Rules
 pub mod Body
@@ -13,6 +18,7 @@ pub mod Train
 pub mod Safety
 pub mod Same
 pub mod Progress
+pub mod ProgressReleased
 pub mod ProgressPasses
 pub mod ProgressRepeat
 pub mod ProgressNew
@@ -20,5 +26,7 @@ pub mod ProgressAll
 pub mod Theorem
 pub mod Witness
 pub mod Refuted
-pub mod Leaves
 pub mod Left
+pub mod Wiping
+pub mod AfterRelease
+pub mod OccasionsRefuted

@@ -20,15 +20,15 @@ use Rattle.receiver.specs.declared.Receiver.{Receiver}
 use Rattle.receiver.specs.Record.{taking, receiving, complete, receivingOrComplete, running, pastEnd, kindAt, heldLength, sumTo, gap, faults, impossible}
 use Rattle.receiver.specs.Answers.{Answer, refused, answered, Step}
 use Rattle.receiver.specs.Receive.{Arrival, receiveRows, slotRules, settle, Outcome, fails, repeats, closes, keeps, finishes}
-use Rattle.receiver.specs.Advance.{tryNewOf, clockRows, fires, cancelRows}
-use Rattle.delivery.specs.Calls.{Call, receive, advance, cancel, Left, start, stepOf, after}
+use Rattle.receiver.specs.Advance.{tryNewOf, clockRows, fires, cancelRows, releaseRows}
+use Rattle.delivery.specs.Calls.{Call, receive, advance, cancel, release, Left, start, stepOf, after}
 use Rattle.delivery.specs.Demand.{NoneRefusedWith62}
 use Rattle.delivery.specs.Lists.{never, sumTo-zero}
-use Rattle.delivery.specs.Rules.{by-receive, by-advance, by-cancel}
+use Rattle.delivery.specs.Rules.{by-receive, by-advance, by-cancel, by-release}
 use Rattle.delivery.specs.Message.{octets-small}
 use Rattle.delivery.specs.Body.{BodyOf, Holds}
 use Rattle.delivery.specs.Invariant.{InvOf, open-takes, shut, start-inv}
-pub use Rattle.delivery.specs.Ready.{filled, Ready, ReadyOf, receive-ready, advance-ready, cancel-ready, then-ready, start-ready, after-both}
+pub use Rattle.delivery.specs.Ready.{filled, Ready, ReadyOf, receive-ready, advance-ready, cancel-ready, release-ready, then-ready, start-ready, after-both}
 
 -- what is full up to its end has no gap before it
 filled-gap : (held : Words) (z : EndSequence) → filled held z ≡ true → gap held z ≡ false
@@ -209,14 +209,16 @@ module _ (interval : ℕ) (r : Receiver) (store : List ℕ) (ok : impossible r �
       ) n)
       (λ A f. omega arith) (λ f. omega arith) (λ A. settle-other interval (firstOf (slotRules r a store) keeps) r a store o)
   no-62 (advance now′) =
-      by-advance Other r store now′ (λ n. other-number (clockRows r store now′) ((λ t. refl), ((λ t. never _ ok t), ((λ t. refl), tt))) n) (λ l b p e f. fired b p)
+      by-advance Other r store now′ (λ n. other-number (clockRows r store now′) ((λ t. refl), ((λ t. never _ ok t), ((λ t. refl), tt))) n) (λ K b p e f. fired b p)
     where
       fired : (b p : Bool) → Other (fires b p r store now′)
       fired false p f = omega arith
       fired true true f = omega arith
       fired true false f = omega arith
   no-62 (cancel now′) =
-      by-cancel Other r store now′ (λ n. other-number (cancelRows r store now′) ((λ t. refl), ((λ t. never _ ok t), ((λ t. refl), ((λ t. refl), tt)))) n) (λ l f. omega arith)
+      by-cancel Other r store now′ (λ n. other-number (cancelRows r store now′) ((λ t. refl), ((λ t. never _ ok t), ((λ t. refl), ((λ t. refl), tt)))) n) (λ K s f. omega arith)
+  no-62 (release now′) =
+      by-release Other r store now′ (λ n. other-number (releaseRows r store now′) ((λ t. refl), ((λ t. never _ ok t), ((λ t. refl), ((λ t. refl), tt)))) n) (λ K s f. omega arith)
 
 -- no call of any list is refused with 62
 pub never-62 : (interval : ℕ) → NoneRefusedWith62 tryNewOf (stepOf interval)

@@ -1,6 +1,6 @@
 -- A train that is delivered under the conditions: what holds after each of its calls, and that an advance keeps it.
 use Prim.Native.Nat.{ℕ, _+_, _≤_, _<_}
-use mathlib.Core.Path.{_≡_, refl, sym, ap}
+use mathlib.Core.Path.{_≡_, refl, sym, ap, _∙_}
 use mathlib.Core.List.{List, [], _∷_}
 use mathlib.Core.Bool.{Bool, true, false, false≢true}
 use mathlib.Core.Option.{Option, none, some}
@@ -105,49 +105,62 @@ not-due T w calls now′ k t = go (receiving (w .receiver .progress .state)) ref
         rw (s .set) (lt-leb _ _ (t .in-time (s .at) (s .delivered) (lacks T w calls k e)))
     go false e = rw (k .off e)
 
-module _ (T : Train) (w : Left) (calls : List Call) (now′ : ℕ) (k : HoldingOf T w calls) (t : Timely T calls now′) where
+-- a call more, at a reading, by which nothing more has come: an advance, a release
+pub record Quiet (T : Train) (calls : List Call) (now′ : ℕ) (calls′ : List Call) : Type 0 where
+  pub taken-at : lastReading (T .made) calls′ ≡ now′
+  pub delivered : lastDelivery calls′ ≡ lastDelivery calls
+  pub before : (x : WholeSegment) → HasCome x calls′ → HasCome x calls
+  pub after : (x : WholeSegment) → HasCome x calls → HasCome x calls′
+
+module _ (T : Train) (w : Left) (calls : List Call) (now′ : ℕ) (k : HoldingOf T w calls) where
   abbrev r : Receiver
   r = w .receiver
 
-  -- an advance leaves the phase
-  same-phase : Phase T (r .progress .state) (w .accepted) (w .handed) calls → Phase T (r .progress .state) (w .accepted) (w .handed) (advance now′ ∷ calls)
-  same-phase (waiting s f g d) = waiting s f g d
-  same-phase (going s f j l g) = going s f j l g
-  same-phase (done s f n m g) = done s f n m g
+  module _ (calls′ : List Call) (q : Quiet T calls now′ calls′) where
+    -- it leaves the phase
+    same-phase : Phase T (r .progress .state) (w .accepted) (w .handed) calls → Phase T (r .progress .state) (w .accepted) (w .handed) calls′
+    same-phase (waiting s f g d) = waiting s f g (q .delivered ∙ d)
+    same-phase (going s f j l g) = going s f j l g
+    same-phase (done s f n m g) = done s f n m g
 
-  -- and what set the deadline
-  same-set : SetBy (T .interval) (r .progress .«deadline_monotonic_ms») calls → SetBy (T .interval) (r .progress .«deadline_monotonic_ms») (advance now′ ∷ calls)
-  same-set s = record { at = s .at; delivered = s .delivered; set = s .set }
+    -- and what set the deadline
+    same-set : SetBy (T .interval) (r .progress .«deadline_monotonic_ms») calls → SetBy (T .interval) (r .progress .«deadline_monotonic_ms») calls′
+    same-set s = record { at = s .at; delivered = q .delivered ∙ s .delivered; set = s .set }
 
-  -- all of it holds with another reading
-  same : (n : ℕ) → n ≤ now′
-      → Holding T (r .terms) (r .progress .state) (r .progress .«end_sequence») (r .progress .«message_length») (r .progress .«stored_octets») (r .progress .«deadline_monotonic_ms») n (w .store) (w .accepted) (w .handed) (advance now′ ∷ calls)
-  same n l = record {
-    terms-are = k .terms-are;
-    read-by = l;
-    set-by = λ e. same-set (k .set-by e);
-    off = k .off;
-    room = k .room;
-    has = k .has;
-    seen = k .seen;
-    shown = k .shown;
-    counted = k .counted;
-    agrees = k .agrees;
-    no-end = k .no-end;
-    at-end = k .at-end;
-    phase = same-phase (k .phase);
-  }
+    -- all of it holds with another reading
+    pub same : (n : ℕ) → n ≤ now′
+        → Holding T (r .terms) (r .progress .state) (r .progress .«end_sequence») (r .progress .«message_length») (r .progress .«stored_octets») (r .progress .«deadline_monotonic_ms») n (w .store) (w .accepted) (w .handed) calls′
+    same n l = record {
+      terms-are = k .terms-are;
+      read-by = omega (arith, l, q .taken-at);
+      set-by = λ e. same-set (k .set-by e);
+      off = k .off;
+      room = k .room;
+      has = k .has;
+      seen = λ s h c. k .seen s h (q .before (T .segment s) c);
+      shown = λ s x f. q .after (T .segment s) (k .shown s x f);
+      counted = k .counted;
+      agrees = k .agrees;
+      no-end = k .no-end;
+      at-end = k .at-end;
+      phase = same-phase (k .phase);
+    }
 
-  -- no deadline fires
-  fired : (b p : Bool) → b ≡ false → HoldingOf T (taken w (advance now′) (fires b p r (w .store) now′)) (advance now′ ∷ calls)
-  fired false p e = same now′ (omega arith)
-  fired true p e = absurd (false≢true (sym e))
+  -- an advance brings nothing
+  quiet-advance : Quiet T calls now′ (advance now′ ∷ calls)
+  quiet-advance = record { taken-at = refl; delivered = refl; before = λ x c. c; after = λ x c. c }
 
-  -- an advance keeps it
-  pub advanced : HoldingOf T (then (stepOf (T .interval)) w (advance now′)) (advance now′ ∷ calls)
-  unfolding advanceOf
-  advanced = go (refusal (clockRows r (w .store) now′))
-    where
-      go : (v : Option Refusal) → HoldingOf T (taken w (advance now′) (advanceAfter v r (w .store) now′)) (advance now′ ∷ calls)
-      go (some n) = same (r .progress .«last_monotonic_ms») (omega (arith, k .read-by, t .never-falls))
-      go none = fired (due (r .progress .«deadline_monotonic_ms») now′) (prohibited (r .progress .services .«acknowledgment_window»)) (not-due T w calls now′ k t)
+  module _ (t : Timely T calls now′) where
+    -- no deadline fires
+    fired : (b p : Bool) → b ≡ false → HoldingOf T (taken w (advance now′) (fires b p r (w .store) now′)) (advance now′ ∷ calls)
+    fired false p e = same (advance now′ ∷ calls) quiet-advance now′ (omega arith)
+    fired true p e = absurd (false≢true (sym e))
+
+    -- an advance keeps it
+    pub advanced : HoldingOf T (then (stepOf (T .interval)) w (advance now′)) (advance now′ ∷ calls)
+    unfolding advanceOf
+    advanced = go (refusal (clockRows r (w .store) now′))
+      where
+        go : (v : Option Refusal) → HoldingOf T (taken w (advance now′) (advanceAfter v r (w .store) now′)) (advance now′ ∷ calls)
+        go (some n) = same (advance now′ ∷ calls) quiet-advance (r .progress .«last_monotonic_ms») (omega (arith, k .read-by, t .never-falls))
+        go none = fired (due (r .progress .«deadline_monotonic_ms») now′) (prohibited (r .progress .services .«acknowledgment_window»)) (not-due T w calls now′ k t)

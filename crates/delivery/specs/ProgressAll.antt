@@ -1,20 +1,21 @@
 -- A whole list of calls under the delivery conditions: what holds after it, and that the message is handed over once every segment has come.
-use Prim.Native.Nat.{ℕ, _<_}
-use mathlib.Core.Path.{_≡_, refl, sym, ap, _∙_, subst}
-use mathlib.Core.List.{List, [], _∷_, _++_, map, nil≢cons}
+use Prim.Native.Nat.{ℕ}
+use mathlib.Core.Path.{_≡_, refl, ap, _∙_, subst}
+use mathlib.Core.Logic.{_⊎_, inl, inr}
+use mathlib.Core.List.{List, [], _∷_, _++_}
 use mathlib.Core.Bool.{Bool, true, false}
 use mathlib.Core.Option.{Option, none, some}
 use native.Mathlib.Omega.{arith}
 use Rattle.tsar.specs.Rows.{Refusal, firstOf, refusal, by-rows}
-use Rattle.tsar.specs.Layout.{WholeSegment}
 use Rattle.tsar.specs.Kinds.{prohibited}
 use Rattle.receiver.specs.Record.{late, impossible}
 use Rattle.receiver.specs.Receive.{Arrival, receiveRows, slotRules, keeps, settle, lateOr, receiveAfter, receiveOf}
-use Rattle.delivery.specs.Calls.{Call, receive, advance, cancel, Left, HandOver, StepFunction, find, absent, stepOf, then, after, FitsTypes, AllFitTypes, AfterTheList, AllOfAccepted}
-use Rattle.delivery.specs.Delivery.{HasCome, AllHaveCome, DeliveryConditions, DeliveryMeets}
-use Rattle.delivery.specs.Lists.{never, present}
-use Rattle.delivery.specs.Train.{Train, train-message}
-use Rattle.delivery.specs.Progress.{Phase, waiting, going, done, HoldingOf, advanced}
+use Rattle.delivery.specs.Calls.{Call, receive, advance, cancel, release, Left, HandOver, StepFunction, stepOf, then, after, FitsTypes, AllFitTypes, AfterTheList, AllOfAccepted}
+use Rattle.delivery.specs.Delivery.{AllHaveCome, DeliveryConditions, DeliveryMeets}
+use Rattle.delivery.specs.Lists.{never}
+use Rattle.delivery.specs.Train.{Train}
+use Rattle.delivery.specs.Progress.{HoldingOf, advanced}
+use Rattle.delivery.specs.ProgressReleased.{messagesOf, ReleasedTrain, delivered-whole, delivered-only, released, released-then, delivered-octet}
 use Rattle.delivery.specs.ProgressPasses.{_⨾_, Arrived, Next, number-small, passes, in-time}
 use Rattle.delivery.specs.ProgressRepeat.{no-other-length, no-other-content, again}
 use Rattle.delivery.specs.ProgressNew.{not-complete, not-at-255, is-served, crc-absent, end-in-place, not-past, lengths-agree, not-too-long, not-over, right-length, hands-over, goes-on}
@@ -91,6 +92,10 @@ module _ (T : Train) (w₀ : Left) (known : Known T w₀) where
     is = after-append (stepOf (T .interval)) w₀ (R .by) (c ∷ []) ∙ ap (λ (v : Left). then (stepOf (T .interval)) v c) (R .is);
   }
 
+  -- what was handed over is of what was accepted
+  right-of : (w : Left) → Reached T w₀ w → AllOfAccepted (w .handed)
+  right-of w R = subst (λ (v : Left). AllOfAccepted (v .handed)) (R .is) (known .listed (R .by) (R .fit) .messages)
+
   -- a delivery to what calls left
   arrives : (w : Left) (calls : List Call) → Reached T w₀ w → HoldingOf T w calls → (a : Arrival) (out : List ℕ)
       → DeliveryMeets (T .interval) (T .terms) (T .made) (T .count) (T .segment) calls a out → Arrived T
@@ -105,58 +110,47 @@ module _ (T : Train) (w₀ : Left) (known : Known T w₀) where
     meets = m;
   }
 
-  -- it holds after every list of calls
-  all-the-way : (w : Left) (calls cs : List Call) → Reached T w₀ w → HoldingOf T w calls → DeliveryConditions (T .interval) (T .terms) (T .made) (T .count) (T .segment) calls cs
-      → Reached T w₀ (after (stepOf (T .interval)) w cs) × HoldingOf T (after (stepOf (T .interval)) w cs) (latestFirst calls cs)
+  -- it holds after every list of calls, or the receiver was released after the hand-over
+  all-the-way : (w : Left) (calls cs : List Call) → Reached T w₀ w → HoldingOf T w calls ⊎ ReleasedTrain T w calls
+      → DeliveryConditions (T .interval) (T .terms) (T .made) (T .count) (T .segment) calls cs
+      → Reached T w₀ (after (stepOf (T .interval)) w cs)
+      × (HoldingOf T (after (stepOf (T .interval)) w cs) (latestFirst calls cs) ⊎ ReleasedTrain T (after (stepOf (T .interval)) w cs) (latestFirst calls cs))
   unfolding arrives
   all-the-way w calls [] R k D = (R, k)
-  all-the-way w calls (receive a out ∷ cs) R k D =
+  all-the-way w calls (receive a out ∷ cs) R (inl k) D =
       let C = arrives w calls R k a out (D .0) in
-      all-the-way (then (stepOf (T .interval)) w (receive a out)) (receive a out ∷ calls) cs (reached-then w (receive a out) R (number-small T C)) (received T C) (D .1)
-  all-the-way w calls (advance n ∷ cs) R k D =
-      all-the-way (then (stepOf (T .interval)) w (advance n)) (advance n ∷ calls) cs (reached-then w (advance n) R tt) (advanced T w calls n k (D .0)) (D .1)
+      all-the-way (then (stepOf (T .interval)) w (receive a out)) (receive a out ∷ calls) cs (reached-then w (receive a out) R (number-small T C)) (inl (received T C)) (D .1)
+  all-the-way w calls (receive a out ∷ cs) R (inr z) D =
+      all-the-way (then (stepOf (T .interval)) w (receive a out)) (receive a out ∷ calls) cs (reached-then w (receive a out) R (delivered-octet T calls a out (D .0)))
+      (inr (released-then T w calls (receive a out) z)) (D .1)
+  all-the-way w calls (advance n ∷ cs) R (inl k) D =
+      all-the-way (then (stepOf (T .interval)) w (advance n)) (advance n ∷ calls) cs (reached-then w (advance n) R tt) (inl (advanced T w calls n k (D .0))) (D .1)
+  all-the-way w calls (advance n ∷ cs) R (inr z) D =
+      all-the-way (then (stepOf (T .interval)) w (advance n)) (advance n ∷ calls) cs (reached-then w (advance n) R tt) (inr (released-then T w calls (advance n) z)) (D .1)
   all-the-way w calls (cancel n ∷ cs) R k D = absurd (D .0)
+  all-the-way w calls (release n ∷ cs) R (inl k) D =
+      all-the-way (then (stepOf (T .interval)) w (release n)) (release n ∷ calls) cs (reached-then w (release n) R tt) (released T w calls n (right-of w R) k (D .0)) (D .1)
+  all-the-way w calls (release n ∷ cs) R (inr z) D =
+      all-the-way (then (stepOf (T .interval)) w (release n)) (release n ∷ calls) cs (reached-then w (release n) R tt) (inr (released-then T w calls (release n) z)) (D .1)
 
 -- ---- what was handed over
 
 -- the message, once every segment has come; nothing before
 pub record Delivered (T : Train) (w : Left) (calls : List Call) : Type 0 where
-  pub whole : AllHaveCome (T .count) (T .segment) calls → map (λ (h : HandOver). h .message) (w .handed) ≡ T .message ∷ []
+  pub whole : AllHaveCome (T .count) (T .segment) calls → messagesOf w ≡ T .message ∷ []
   pub only : (h : HandOver) (hs : List HandOver) → w .handed ≡ h ∷ hs → AllHaveCome (T .count) (T .segment) calls
   pub right : AllOfAccepted (w .handed)
 
-module _ (T : Train) (w : Left) (calls : List Call) (right : AllOfAccepted (w .handed)) (k : HoldingOf T w calls) where
-  -- where every segment has come the message was handed over
-  delivered-whole : AllHaveCome (T .count) (T .segment) calls → map (λ (h : HandOver). h .message) (w .handed) ≡ T .message ∷ []
-  delivered-whole c = go (k .phase)
-    where
-      go : Phase T (w .receiver .progress .state) (w .accepted) (w .handed) calls → map (λ (h : HandOver). h .message) (w .handed) ≡ T .message ∷ []
-      go (waiting e f g d) =
-          let z : 0 < T .count = omega (arith, T .cutting .at-least) in
-          never _ (k .seen 0 z (c 0 z)) (ap (λ (l : List WholeSegment). absent (find 0 l)) f)
-      go (going e f j l g) = never _ (k .seen j l (c j l)) (ap absent g)
-      go (done e f n m g) =
-          ap (map (λ (h : HandOver). h .message)) g
-          ∙ ap (λ (l : List ℕ). l ∷ []) (train-message (T .cutting) (record { count = n; message = m; accepted = w .accepted }) (subst AllOfAccepted g right .0) (k .has))
-
-  -- and where something was handed over every segment has come
-  delivered-only : (h : HandOver) (hs : List HandOver) → w .handed ≡ h ∷ hs → AllHaveCome (T .count) (T .segment) calls
-  delivered-only h hs q i l = go (k .phase)
-    where
-      go : Phase T (w .receiver .progress .state) (w .accepted) (w .handed) calls → HasCome (T .segment i) calls
-      go (waiting e f g d) = absurd (nil≢cons (sym g ∙ q))
-      go (going e f j b g) = absurd (nil≢cons (sym f ∙ q))
-      go (done e f n m g) = let x = present (find i (w .accepted)) (f i l) in k .shown i (x .0) (x .1)
+module _ (T : Train) (w : Left) (calls : List Call) (right : AllOfAccepted (w .handed)) where
+  -- released or not
+  delivered : HoldingOf T w calls ⊎ ReleasedTrain T w calls → Delivered T w calls
+  delivered (inl k) = record { whole = delivered-whole T w calls right k; only = delivered-only T w calls right k; right = right }
+  delivered (inr z) = record { whole = λ c. z .message-is; only = λ h hs q. z .come; right = right }
 
 -- after every list of calls under the conditions the message was handed over exactly where every segment has come
 pub train-delivered : (T : Train) (w₀ : Left) → Known T w₀ → HoldingOf T w₀ [] → (cs : List Call) → DeliveryConditions (T .interval) (T .terms) (T .made) (T .count) (T .segment) [] cs
     → Delivered T (after (stepOf (T .interval)) w₀ cs) (latestFirst [] cs)
 train-delivered T w₀ known k cs D =
-    let e = all-the-way T w₀ known w₀ [] cs (record { by = []; fit = tt; is = refl }) k D in
+    let e = all-the-way T w₀ known w₀ [] cs (record { by = []; fit = tt; is = refl }) (inl k) D in
     let w = after (stepOf (T .interval)) w₀ cs in
-    let right = subst (λ (v : Left). AllOfAccepted (v .handed)) (e .0 .is) (known .listed (e .0 .by) (e .0 .fit) .messages) in
-    record {
-      whole = delivered-whole T w (latestFirst [] cs) right (e .1);
-      only = delivered-only T w (latestFirst [] cs) right (e .1);
-      right = right;
-    }
+    delivered T w (latestFirst [] cs) (right-of T w₀ known w (e .0)) (e .1)

@@ -22,6 +22,7 @@ use Rattle.delivery.specs.Delivery.{lastDelivery, DeliveryMeets}
 use Rattle.delivery.specs.Lists.{never, present}
 use Rattle.delivery.specs.Same.{same-identity, same-protocol, not-late}
 use Rattle.delivery.specs.Train.{Train, headOf, Is, first-begins}
+use Rattle.delivery.specs.ProgressReleased.{delivered-octet}
 use Rattle.delivery.specs.Progress.{Phase, waiting, going, done, HoldingOf, not-due}
 
 -- one row's answer, and those of the rows behind it
@@ -70,7 +71,7 @@ module _ (T : Train) (C : Arrived T) where
 
   -- an octet
   pub number-small : sequence a < 256
-  number-small = omega (arith, number, C .meets .in-train, T .cutting .at-most)
+  number-small = delivered-octet T (C .calls) (C .a) (C .out) (C .meets)
 
   -- it is that segment
   pub brings-here : Is (T .segment i) (brought a)

@@ -36,9 +36,9 @@ use Rattle.receiver.specs.Record.{taking, awaiting, receiving, complete, receiv
 use Rattle.receiver.specs.Answers.{Step}
 use Rattle.receiver.specs.Receive.{Arrival, sequence, kind, settle, servicesOf, Stage, before, begun, noted, keeping, fails, repeats, keeps, finishes}
 use Rattle.receiver.specs.Advance.{noServices, empty, tryNewOf, fires}
-use Rattle.delivery.specs.Calls.{Call, receive, advance, cancel, Left, stepOf, after, then, FitsTypes, AllFitTypes}
+use Rattle.delivery.specs.Calls.{Call, receive, advance, cancel, release, Left, stepOf, after, then, FitsTypes, AllFitTypes}
 use Rattle.delivery.specs.Lists.{never, and-left, and-rest, holding, marked-here, marked-other}
-use Rattle.delivery.specs.Rules.{Admitted, New, servicesWith, endWith, fills, by-rules, by-receive, by-advance, by-cancel}
+use Rattle.delivery.specs.Rules.{Admitted, New, servicesWith, endWith, fills, by-rules, by-receive, by-advance, by-cancel, by-release}
 use Rattle.delivery.specs.Body.{end-cases}
 use Rattle.delivery.specs.Invariant.{InvOf, open-takes, shut, then-inv, made-is}
 
@@ -225,12 +225,12 @@ module _ (interval : ℕ) (t : Terms) (w : Left) (I : InvOf t w) (S : ReadyOf (w
       by-receive Next interval r a (w .store) o (λ n e. S) (λ A. closed-ready Expired refl _ _ _) S
       (λ A. by-rules (λ out. Next (settle interval out r a (w .store) o)) r a (w .store) (λ st s n. fails-ready st s) (λ e. again-ready) S (λ N right. finished-ready A N) (kept-ready A))
 
--- ---- advance and cancel
+-- ---- advance, cancel and release
 
 module _ (interval : ℕ) (w : Left) (S : ReadyOf (w .receiver)) (now′ : ℕ) where
   -- advance keeps it
   pub advance-ready : ReadyOf (then (stepOf interval) w (advance now′) .receiver)
-  advance-ready = by-advance (λ st. ReadyOf (st .receiver)) (w .receiver) (w .store) now′ (λ n e. S) (λ l b p e f. fired b p f)
+  advance-ready = by-advance (λ st. ReadyOf (st .receiver)) (w .receiver) (w .store) now′ (λ n e. S) (λ K b p e f. fired b p f)
     where
       fired : (b p : Bool) → prohibited (w .receiver .progress .services .«acknowledgment_window») ≡ p → ReadyOf (fires b p (w .receiver) (w .store) now′ .receiver)
       fired false p e = S
@@ -250,13 +250,18 @@ module _ (interval : ℕ) (w : Left) (S : ReadyOf (w .receiver)) (now′ : ℕ) 
 
   -- cancel keeps it
   pub cancel-ready : ReadyOf (then (stepOf interval) w (cancel now′) .receiver)
-  cancel-ready = by-cancel (λ st. ReadyOf (st .receiver)) (w .receiver) (w .store) now′ (λ n e. S) (λ l. closed-ready Canceled refl _ _ _)
+  cancel-ready = by-cancel (λ st. ReadyOf (st .receiver)) (w .receiver) (w .store) now′ (λ n e. S) (λ K s. closed-ready Canceled refl _ _ _)
+
+  -- release keeps it
+  pub release-ready : ReadyOf (then (stepOf interval) w (release now′) .receiver)
+  release-ready = by-release (λ st. ReadyOf (st .receiver)) (w .receiver) (w .store) now′ (λ n e. S) (λ K s. closed-ready Canceled refl _ _ _)
 
 -- each call keeps it
 pub then-ready : (interval : ℕ) (t : Terms) (w : Left) (c : Call) → FitsTypes c → InvOf t w → ReadyOf (w .receiver) → ReadyOf (then (stepOf interval) w c .receiver)
 then-ready interval t w (receive a o) h I S = receive-ready interval t w I S a o h
 then-ready interval t w (advance n) h I S = advance-ready interval w S n
 then-ready interval t w (cancel n) h I S = cancel-ready interval w S n
+then-ready interval t w (release n) h I S = release-ready interval w S n
 
 -- the record of a try_new that refuses nothing has it
 pub start-ready : (t : Terms) (made : ℕ) → tryNewOf t made .refused ≡ none → ReadyOf (tryNewOf t made .receiver)

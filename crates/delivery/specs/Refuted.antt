@@ -1,4 +1,5 @@
--- Demand 3 does not hold of the receivers that document 01 shuts out, each a step function: what a wrong receiver answers in Witness's list.
+-- Demand 3 does not hold of the receivers that document 01 shuts out, nor of two that release wrongly (2026-07), each a step function: what a wrong
+-- receiver answers in Witness's list.
 use Prim.Native.Nat.{ℕ}
 use mathlib.Core.Path.{_≡_, refl, sym, ap, _∙_}
 use mathlib.Core.List.{List, []}
@@ -18,11 +19,11 @@ use Rattle.receiver.specs.declared.Receiver.{Receiver}
 use Rattle.receiver.specs.Record.{sumTo, emptySlots, emptyLengths, wiped, joined, impossible, with, timed, read, closed}
 use Rattle.receiver.specs.Answers.{Answer, refused, answered, refuses}
 use Rattle.receiver.specs.Receive.{Arrival, kind, receiveOf}
-use Rattle.receiver.specs.Advance.{tryNewOf, advanceOf}
-use Rattle.delivery.specs.Calls.{Call, receive, advance, cancel, StepFunction, stepOf, carried}
+use Rattle.receiver.specs.Advance.{tryNewOf, advanceOf, cancelAfter, releaseOf}
+use Rattle.delivery.specs.Calls.{Call, receive, advance, cancel, release, StepFunction, stepOf, carried}
 use Rattle.delivery.specs.Delivery.{reading}
 use Rattle.delivery.specs.Demand.{Demand3}
-use Rattle.delivery.specs.Witness.{new-made, lastStep, must, must-4, not-first}
+use Rattle.delivery.specs.Witness.{new-made, lastStep, must, must-4, not-released, not-first}
 
 -- how long a receiver waits for a segment, in milliseconds
 abbrev interval : ℕ
@@ -53,6 +54,7 @@ abbrev pub dueAtOnce : StepFunction
 dueAtOnce r store (receive a out) = cond (isBegin (kind a)) (ours r store (receive a out)) (refuses (37, 0) r store out)
 dueAtOnce r store (advance n) = ours r store (advance n)
 dueAtOnce r store (cancel n) = ours r store (cancel n)
+dueAtOnce r store (release n) = ours r store (release n)
 
 -- answers Closed at once, and expires
 abbrev pub closedAtOnce : StepFunction
@@ -60,6 +62,7 @@ closedAtOnce r store (receive a out) =
     cond (isBegin (kind a)) (ours r store (receive a out)) (record { answer = refused (38, 0); receiver = closed r Expired (a .reading); store = wiped store; output = out })
 closedAtOnce r store (advance n) = ours r store (advance n)
 closedAtOnce r store (cancel n) = ours r store (cancel n)
+closedAtOnce r store (release n) = ours r store (release n)
 
 -- stores only the Begin and claims to hold the others: ours, but only a Begin's octets reach the store
 abbrev pub storesBegin : StepFunction
@@ -68,6 +71,7 @@ storesBegin r store (receive a out) =
     record { answer = st .answer; receiver = st .receiver; store = cond (isBegin (kind a)) (st .store) store; output = st .output }
 storesBegin r store (advance n) = ours r store (advance n)
 storesBegin r store (cancel n) = ours r store (cancel n)
+storesBegin r store (release n) = ours r store (release n)
 
 -- sets a deadline of now: ours, but for the deadline that a receive sets, which is its own reading
 abbrev dueNow : Deadline → ℕ → Deadline
@@ -81,6 +85,21 @@ deadlineNow r store (receive a out) =
     record { answer = st .answer; receiver = with (st .receiver) (timed p (dueNow (p .«deadline_monotonic_ms») (a .reading)) (p .«last_monotonic_ms»)); store = st .store; output = st .output }
 deadlineNow r store (advance n) = ours r store (advance n)
 deadlineNow r store (cancel n) = ours r store (cancel n)
+deadlineNow r store (release n) = ours r store (release n)
+
+-- releases while it is Receiving: ours, but a release is never refused
+abbrev pub releasesOpen : StepFunction
+releasesOpen r store (receive a out) = ours r store (receive a out)
+releasesOpen r store (advance n) = ours r store (advance n)
+releasesOpen r store (cancel n) = ours r store (cancel n)
+releasesOpen r store (release n) = cancelAfter none r store n
+
+-- hands over again: ours, but a release hands something over
+abbrev pub handsAgain : StepFunction
+handsAgain r store (receive a out) = ours r store (receive a out)
+handsAgain r store (advance n) = ours r store (advance n)
+handsAgain r store (cancel n) = ours r store (cancel n)
+handsAgain r store (release n) = let st = ours r store (release n) in record { answer = answered none (some 0); receiver = st .receiver; store = st .store; output = st .output }
 
 -- hands over early: something with every call
 abbrev pub early : StepFunction
@@ -99,16 +118,21 @@ none-some o k e f = let z : _≡_ {A = ℕ} 0 1 = cc in omega arith
 
 -- under Prohibited Closed, under Every4 37
 deadline-now-38 : lastStep window.Prohibited true tryNewOf deadlineNow .answer ≡ refused (38, 0)
-unfolding tryNewOf receiveOf advanceOf impossible allBelow sumTo emptySlots emptyLengths joined sameOctets wipedTo marked wordsOf sumBelow highestOf
+unfolding tryNewOf receiveOf advanceOf releaseOf impossible allBelow sumTo emptySlots emptyLengths joined sameOctets wipedTo marked wordsOf sumBelow highestOf
 deadline-now-38 = refl
 
 deadline-now-37 : lastStep window.Every4 false tryNewOf deadlineNow .answer ≡ refused (37, 0)
-unfolding tryNewOf receiveOf advanceOf impossible allBelow sumTo emptySlots emptyLengths joined sameOctets wipedTo marked wordsOf sumBelow highestOf
+unfolding tryNewOf receiveOf advanceOf releaseOf impossible allBelow sumTo emptySlots emptyLengths joined sameOctets wipedTo marked wordsOf sumBelow highestOf
 deadline-now-37 = refl
+
+-- released before, it is closed
+releases-open-38 : lastStep window.Prohibited true tryNewOf releasesOpen .answer ≡ refused (38, 0)
+unfolding tryNewOf receiveOf advanceOf releaseOf impossible allBelow sumTo emptySlots emptyLengths joined sameOctets wipedTo marked wordsOf sumBelow highestOf
+releases-open-38 = refl
 
 -- 7 octets, of which the fifth is what stood in the store before
 stores-begin-octet : getD (take 7 (lastStep window.Prohibited true tryNewOf storesBegin .output)) 4 0 ≡ 165
-unfolding tryNewOf receiveOf advanceOf impossible allBelow sumTo emptySlots emptyLengths joined sameOctets wipedTo marked wordsOf sumBelow highestOf
+unfolding tryNewOf receiveOf advanceOf releaseOf impossible allBelow sumTo emptySlots emptyLengths joined sameOctets wipedTo marked wordsOf sumBelow highestOf
 stores-begin-octet = refl
 
 -- ---- refuted
@@ -154,6 +178,14 @@ pub deadline-now-refuted-37 : Demand3 interval tryNewOf deadlineNow → ⊥
 deadline-now-refuted-37 d =
     let h = must-4 interval (lit≤ tt) (lit≤ tt) tryNewOf new-made deadlineNow (d .second-half) in
     none-some _ 7 (ap carried deadline-now-37) (h .0)
+
+pub releases-open-refuted : Demand3 interval tryNewOf releasesOpen → ⊥
+releases-open-refuted d =
+    let h = must interval (lit≤ tt) (lit≤ tt) tryNewOf new-made releasesOpen (d .second-half) in
+    none-some _ 7 (ap carried releases-open-38) (h .0)
+
+pub hands-again-refuted : Demand3 interval tryNewOf handsAgain → ⊥
+hands-again-refuted d = not-released interval (lit≤ tt) (lit≤ tt) tryNewOf new-made handsAgain (d .second-half) 0 refl
 
 pub early-refuted : Demand3 interval tryNewOf early → ⊥
 early-refuted d = not-first interval (lit≤ tt) (lit≤ tt) tryNewOf new-made early (d .second-half) 0 refl

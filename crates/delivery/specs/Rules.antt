@@ -1,7 +1,7 @@
 -- The ways in which a call can end, each with the facts that hold there: a claim on what every call leaves is shown by these cases.
 use Prim.Native.Nat.{ℕ, _+_, _-_, _≤_, min}
 use mathlib.Core.Path.{_≡_, refl}
-use mathlib.Core.List.{List, []}
+use mathlib.Core.List.{List, [], _∷_, _++_}
 use mathlib.Core.Bool.{Bool, true, false, not, _&&_, _||_}
 use mathlib.Core.Option.{Option, none, some}
 use lib.ListN.{length}
@@ -20,10 +20,10 @@ use Rattle.response.specs.declared.Status.{Status}
 use Rattle.response.specs.declared.Status.the-variants as status
 use Rattle.receiver.specs.declared.EndSequence.{EndSequence}
 use Rattle.receiver.specs.declared.Receiver.{Receiver}
-use Rattle.receiver.specs.Record.{taking, awaiting, complete, late, due, statesBelow, statesAbove, clash, pastEnd, otherEnd, storeOctets, clearPast, fullWith}
+use Rattle.receiver.specs.Record.{taking, awaiting, receiving, complete, late, due, statesBelow, statesAbove, clash, pastEnd, otherEnd, storeOctets, clearPast, fullWith, impossible}
 use Rattle.receiver.specs.Answers.{Step, refuses}
 use Rattle.receiver.specs.Receive.{Arrival, sequence, kind, servicesOf, statedOf, endOf, unserved, receiveRows, slotRules, settle, lateOr, receiveAfter, receiveOf, Stage, before, begun, noted, keeping, Outcome, fails, repeats, closes, keeps, finishes}
-use Rattle.receiver.specs.Advance.{clockRows, fires, advanceAfter, advanceOf, cancelRows, cancelAfter, cancelOf}
+use Rattle.receiver.specs.Advance.{clockRows, fires, advanceAfter, advanceOf, cancelRows, cancelAfter, cancelOf, releaseRows, releaseOf}
 use Rattle.delivery.specs.Lists.{and-rest, or-left, or-right}
 
 -- ---- receive
@@ -165,27 +165,52 @@ module _ (P : Step → Type 0) (interval : ℕ) (r : Receiver) (a : Arrival) (st
       go (some n) e = refused′ n e
       go none e = in-time (admitted e) (late (r .progress .«deadline_monotonic_ms») (a .reading)) (prohibited (r .progress .services .«acknowledgment_window»))
 
--- ---- advance and cancel
+-- ---- advance, cancel and release
+
+-- what holds of one that 60, 62 and 33 do not refuse
+pub record Clocked (r : Receiver) (store : List ℕ) (now′ : ℕ) : Type 0 where
+  pub room : storeOctets ≤ length store
+  pub possible : impossible r ≡ false
+  pub not-back : r .progress .«last_monotonic_ms» ≤ now′
 
 module _ (P : Step → Type 0) (r : Receiver) (store : List ℕ) (now′ : ℕ) where
+  -- where none of the clock's rows holds, whatever rows stand behind them
+  clocked : (rows : List (Bool × Refusal)) → refusal (clockRows r store now′ ++ rows) ≡ none → Clocked r store now′
+  clocked rows e =
+      let f = refusal-none (clockRows r store now′ ++ rows) e in
+      record { room = ltb-false _ _ (f 0); possible = f 1; not-back = ltb-false _ _ (f 2) }
+
   -- advance: it is refused, or the deadline is due or not
   pub by-advance : ((n : Refusal) → refusal (clockRows r store now′) ≡ some n → P (refuses n r store []))
-      → (r .progress .«last_monotonic_ms» ≤ now′ → (b p : Bool) → due (r .progress .«deadline_monotonic_ms») now′ ≡ b → prohibited (r .progress .services .«acknowledgment_window») ≡ p → P (fires b p r store now′))
+      → (Clocked r store now′ → (b p : Bool) → due (r .progress .«deadline_monotonic_ms») now′ ≡ b → prohibited (r .progress .services .«acknowledgment_window») ≡ p → P (fires b p r store now′))
       → P (advanceOf r store now′)
   unfolding advanceOf
   by-advance f g = go (refusal (clockRows r store now′)) refl
     where
       go : (v : Option Refusal) → refusal (clockRows r store now′) ≡ v → P (advanceAfter v r store now′)
       go (some n) e = f n e
-      go none e = g (ltb-false _ _ (refusal-none (clockRows r store now′) e 2)) (due (r .progress .«deadline_monotonic_ms») now′) (prohibited (r .progress .services .«acknowledgment_window»)) refl refl
+      go none e = g (clocked [] e) (due (r .progress .«deadline_monotonic_ms») now′) (prohibited (r .progress .services .«acknowledgment_window»)) refl refl
 
-  -- cancel: it is refused, or cancels
+  -- what rows decide by cancelAfter: it is refused, or closed
+  by-closing : (rows : List (Bool × Refusal)) → ((n : Refusal) → refusal rows ≡ some n → P (refuses n r store []))
+      → (refusal rows ≡ none → P (cancelAfter none r store now′))
+      → P (cancelAfter (refusal rows) r store now′)
+  by-closing rows f g = go (refusal rows) refl
+    where
+      go : (v : Option Refusal) → refusal rows ≡ v → P (cancelAfter v r store now′)
+      go (some n) e = f n e
+      go none e = g e
+
+  -- cancel: it is refused, or cancels an open reception
   pub by-cancel : ((n : Refusal) → refusal (cancelRows r store now′) ≡ some n → P (refuses n r store []))
-      → (r .progress .«last_monotonic_ms» ≤ now′ → P (cancelAfter none r store now′))
+      → (Clocked r store now′ → (awaiting (r .progress .state) || receiving (r .progress .state)) ≡ true → P (cancelAfter none r store now′))
       → P (cancelOf r store now′)
   unfolding cancelOf
-  by-cancel f g = go (refusal (cancelRows r store now′)) refl
-    where
-      go : (v : Option Refusal) → refusal (cancelRows r store now′) ≡ v → P (cancelAfter v r store now′)
-      go (some n) e = f n e
-      go none e = g (ltb-false _ _ (refusal-none (cancelRows r store now′) e 2))
+  by-cancel f g = by-closing (cancelRows r store now′) f (λ e. g (clocked ((not (awaiting (r .progress .state) || receiving (r .progress .state)), (38, 0)) ∷ []) e) (not-false _ (refusal-none (cancelRows r store now′) e 3)))
+
+  -- release: it is refused, or releases a Complete one
+  pub by-release : ((n : Refusal) → refusal (releaseRows r store now′) ≡ some n → P (refuses n r store []))
+      → (Clocked r store now′ → complete (r .progress .state) ≡ true → P (cancelAfter none r store now′))
+      → P (releaseOf r store now′)
+  unfolding releaseOf
+  by-release f g = by-closing (releaseRows r store now′) f (λ e. g (clocked ((not (complete (r .progress .state)), (38, 0)) ∷ []) e) (not-false _ (refusal-none (releaseRows r store now′) e 3)))

@@ -11,7 +11,7 @@ use Rattle.segmentation.specs.Cutting.{Cutting}
 use Rattle.receiver.specs.Answers.{Step}
 use Rattle.receiver.specs.Receive.{sequence}
 use Rattle.receiver.specs.Advance.{tryNewOf}
-use Rattle.delivery.specs.Calls.{Call, receive, advance, cancel, Left, HandOver, StepFunction, TryNewFunction, stepOf, find, absent, brought, isRefused, hasFailed, addAccepted, addHanded, carried, then, after, start, AllOfAccepted, AllFitTypes}
+use Rattle.delivery.specs.Calls.{Call, receive, advance, cancel, release, Left, HandOver, StepFunction, TryNewFunction, stepOf, find, absent, brought, isRefused, hasFailed, addAccepted, addHanded, carried, then, after, start, AllOfAccepted, AllFitTypes}
 use Rattle.delivery.specs.Demand.{FirstHalf, Safety, BringsOf, AllBringOf, AllHand}
 use Rattle.delivery.specs.Invariant.{after-the-list}
 use Rattle.delivery.specs.Train.{OfTrain, of-train-more, train-message}
@@ -30,6 +30,7 @@ module _ (message : List ℕ) (transaction count : ℕ) (segment : ℕ → Whole
       (omega (arith, x .1, x .2 .same-sequence, C .numbered (x .0) (x .1), C .at-most), fit-types cs (b .1))
   fit-types (advance n ∷ cs) b = (tt, fit-types cs (b .1))
   fit-types (cancel n ∷ cs) b = (tt, fit-types cs (b .1))
+  fit-types (release n ∷ cs) b = (tt, fit-types cs (b .1))
 
   -- what is accepted stays the train's
   accepted-of : (c : Call) (st : Step) (acc : List WholeSegment) → BringsOf count segment c → OfTrain count segment acc → OfTrain count segment (addAccepted c st acc)
@@ -39,6 +40,7 @@ module _ (message : List ℕ) (transaction count : ℕ) (segment : ℕ → Whole
       (λ e. has)
   accepted-of (advance n) st acc b has = has
   accepted-of (cancel n) st acc b has = has
+  accepted-of (release n) st acc b has = has
 
   -- and so does what stands behind a message
   handed-of : (m : Option ℕ) (out : List ℕ) (acc : List WholeSegment) (hs : List HandOver) → OfTrain count segment acc → AllOfTrain hs → AllOfTrain (addHanded m out acc hs)

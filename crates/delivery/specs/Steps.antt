@@ -26,9 +26,9 @@ use Rattle.receiver.specs.Record.{complete, storeOctets, slotOctets}
 use Rattle.receiver.specs.Answers.{Answer, refused, answered, Step, respond, required, requiredResponse, listedIn, failResponse}
 use Rattle.receiver.specs.Receive.{Arrival, sequence, slotRules, settle, kept, atStage, Stage, Outcome, fails, repeats, closes, keeps, finishes}
 use Rattle.receiver.specs.Advance.{fires}
-use Rattle.delivery.specs.Calls.{Call, receive, advance, cancel, stepOf}
+use Rattle.delivery.specs.Calls.{Call, receive, advance, cancel, release, stepOf}
 use Rattle.delivery.specs.Delivery.{reading}
-use Rattle.delivery.specs.Rules.{by-rules, by-receive, by-advance, by-cancel}
+use Rattle.delivery.specs.Rules.{by-rules, by-receive, by-advance, by-cancel, by-release}
 
 -- ---- Received
 
@@ -116,14 +116,16 @@ pub received-complete : (interval : ℕ) (r : Receiver) (store : List ℕ) (c : 
 received-complete interval r store (receive a o) =
     by-receive Tells interval r a store o (λ n e x f. absurd (let z : _≡_ {A = ℕ} 0 1 = cc in omega arith)) (λ A x f. absurd (let z : _≡_ {A = ℕ} 0 1 = cc in omega arith))
     (λ x f. absurd (let z : _≡_ {A = ℕ} 0 1 = cc in omega arith)) (λ A. settled-tells interval r a store o)
-received-complete interval r store (advance now′) = by-advance Tells r store now′ (λ n e x f. absurd (let z : _≡_ {A = ℕ} 0 1 = cc in omega arith)) (λ l b p e f. fired b p)
+received-complete interval r store (advance now′) = by-advance Tells r store now′ (λ n e x f. absurd (let z : _≡_ {A = ℕ} 0 1 = cc in omega arith)) (λ K b p e f. fired b p)
   where
     fired : (b p : Bool) → Tells (fires b p r store now′)
     fired false p x f = absurd (let z : _≡_ {A = ℕ} 0 1 = cc in omega arith)
     fired true true x f = absurd (let z : _≡_ {A = ℕ} 0 1 = cc in omega arith)
     fired true false x f = other-status status.InterSegmentTimeout (respond r status.InterSegmentTimeout true) (respond-has r status.InterSegmentTimeout true) refl x f
 received-complete interval r store (cancel now′) =
-    by-cancel Tells r store now′ (λ n e x f. absurd (let z : _≡_ {A = ℕ} 0 1 = cc in omega arith)) (λ l x f. absurd (let z : _≡_ {A = ℕ} 0 1 = cc in omega arith))
+    by-cancel Tells r store now′ (λ n e x f. absurd (let z : _≡_ {A = ℕ} 0 1 = cc in omega arith)) (λ K s x f. absurd (let z : _≡_ {A = ℕ} 0 1 = cc in omega arith))
+received-complete interval r store (release now′) =
+    by-release Tells r store now′ (λ n e x f. absurd (let z : _≡_ {A = ℕ} 0 1 = cc in omega arith)) (λ K s x f. absurd (let z : _≡_ {A = ℕ} 0 1 = cc in omega arith))
 
 -- ---- the store's length
 
@@ -142,13 +144,14 @@ store-length interval r store (receive a o) =
     settled closes = refl
     settled keeps = length-sets store (slotOctets * sequence a) (a .octets)
     settled finishes = length-sets store (slotOctets * sequence a) (a .octets)
-store-length interval r store (advance now′) = by-advance (AsLong store) r store now′ (λ n e. refl) (λ l b p e f. fired b p)
+store-length interval r store (advance now′) = by-advance (AsLong store) r store now′ (λ n e. refl) (λ K b p e f. fired b p)
   where
     fired : (b p : Bool) → AsLong store (fires b p r store now′)
     fired false p = refl
     fired true true = length-wiped storeOctets store
     fired true false = refl
-store-length interval r store (cancel now′) = by-cancel (AsLong store) r store now′ (λ n e. refl) (λ l. length-wiped storeOctets store)
+store-length interval r store (cancel now′) = by-cancel (AsLong store) r store now′ (λ n e. refl) (λ K s. length-wiped storeOctets store)
+store-length interval r store (release now′) = by-release (AsLong store) r store now′ (λ n e. refl) (λ K s. length-wiped storeOctets store)
 
 -- ---- the last reading
 
@@ -168,10 +171,11 @@ last-reading interval r store (receive a o) =
     settled closes = refl
     settled keeps = refl
     settled finishes = refl
-last-reading interval r store (advance now′) = by-advance (Reads (r .progress .«last_monotonic_ms») now′) r store now′ (λ n e. inl refl) (λ l b p e f. fired l b p)
+last-reading interval r store (advance now′) = by-advance (Reads (r .progress .«last_monotonic_ms») now′) r store now′ (λ n e. inl refl) (λ K b p e f. fired (K .not-back) b p)
   where
     fired : r .progress .«last_monotonic_ms» ≤ now′ → (b p : Bool) → Reads (r .progress .«last_monotonic_ms») now′ (fires b p r store now′)
     fired l false p = inr (refl, l)
     fired l true true = inr (refl, l)
     fired l true false = inr (refl, l)
-last-reading interval r store (cancel now′) = by-cancel (Reads (r .progress .«last_monotonic_ms») now′) r store now′ (λ n e. inl refl) (λ l. inr (refl, l))
+last-reading interval r store (cancel now′) = by-cancel (Reads (r .progress .«last_monotonic_ms») now′) r store now′ (λ n e. inl refl) (λ K s. inr (refl, K .not-back))
+last-reading interval r store (release now′) = by-release (Reads (r .progress .«last_monotonic_ms») now′) r store now′ (λ n e. inl refl) (λ K s. inr (refl, K .not-back))

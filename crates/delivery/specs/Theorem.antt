@@ -21,7 +21,7 @@ use Rattle.receiver.specs.declared.Receiver.{Receiver}
 use Rattle.receiver.specs.Record.{storeOctets}
 use Rattle.receiver.specs.Answers.{Step}
 use Rattle.receiver.specs.Advance.{tryNewOf}
-use Rattle.delivery.specs.Calls.{Call, receive, advance, cancel, Left, HandOver, start, after, then, stepOf, carried, addAccepted, addHanded, AllOfAccepted}
+use Rattle.delivery.specs.Calls.{Call, receive, advance, cancel, release, Left, HandOver, start, after, then, stepOf, carried, addAccepted, addHanded, AllOfAccepted}
 use Rattle.delivery.specs.Delivery.{HasCome, AllHaveCome, DeliveryConditions, HandsOver, HandsOverExactly}
 use Rattle.delivery.specs.Demand.{Demand3, NoneRefusedWith62, stepAfter, givenSegment, trainOf}
 use Rattle.delivery.specs.Invariant.{made-is, start-inv, after-the-list}
@@ -43,6 +43,8 @@ come-first x before (advance n ∷ cs) (inl h) = come-first x (advance n ∷ bef
 come-first x before (advance n ∷ cs) (inr h) = come-first x (advance n ∷ before) cs (inr h)
 come-first x before (cancel n ∷ cs) (inl h) = come-first x (cancel n ∷ before) cs (inl h)
 come-first x before (cancel n ∷ cs) (inr h) = come-first x (cancel n ∷ before) cs (inr h)
+come-first x before (release n ∷ cs) (inl h) = come-first x (release n ∷ before) cs (inl h)
+come-first x before (release n ∷ cs) (inr h) = come-first x (release n ∷ before) cs (inr h)
 
 -- and back
 first-come : (x : WholeSegment) (before cs : List Call) → HasCome x (latestFirst before cs) → HasCome x before ⊎ HasCome x cs
@@ -55,6 +57,7 @@ first-come x before (receive a out ∷ cs) h = go (first-come x (receive a out �
     go (inr k) = inr (inr k)
 first-come x before (advance n ∷ cs) h = first-come x (advance n ∷ before) cs h
 first-come x before (cancel n ∷ cs) h = first-come x (cancel n ∷ before) cs h
+first-come x before (release n ∷ cs) h = first-come x (release n ∷ before) cs h
 
 module _ (count : ℕ) (segment : ℕ → WholeSegment) where
   -- every segment, to the latest first

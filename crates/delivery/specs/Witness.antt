@@ -1,5 +1,5 @@
--- The delivery conditions can be met: document 01's P10, a message of 7 octets cut for a budget of 6, its last segment before the middle one, an advance
--- and a repeat between them; and what whoever meets the second half of demand 3 answers then.
+-- The delivery conditions can be met: document 01's P10, a message of 7 octets cut for a budget of 6, its last segment before the middle one, an
+-- advance, a release, which is refused, and a repeat between them; and what whoever meets the second half of demand 3 answers then.
 use Prim.Native.Nat.{ℕ, zero, suc, _^_, _≤_, _<_}
 use mathlib.Core.Path.{_≡_, refl}
 use mathlib.Core.Logic.{inl, inr}
@@ -19,10 +19,10 @@ use Rattle.segmentation.specs.declared.SegmentedMessage.{SegmentedMessage}
 use Rattle.receiver.specs.Record.{storeOctets, sumTo, emptySlots, emptyLengths, joined, impossible}
 use Rattle.receiver.specs.Answers.{Step}
 use Rattle.receiver.specs.Receive.{Arrival, receiveOf}
-use Rattle.receiver.specs.Advance.{tryNewOf, advanceOf}
+use Rattle.receiver.specs.Advance.{tryNewOf, advanceOf, releaseOf}
 use Rattle.receiver.specs.declared.Terms.{Terms}
-use Rattle.delivery.specs.Calls.{Call, receive, advance, StepFunction, TryNewFunction, stepOf, start, after, carried}
-use Rattle.delivery.specs.Delivery.{Brings, HasCome, AllHaveCome, DeliveryConditions, HandsOver}
+use Rattle.delivery.specs.Calls.{Call, receive, advance, release, StepFunction, TryNewFunction, stepOf, start, after, carried}
+use Rattle.delivery.specs.Delivery.{Brings, HasCome, AllHaveCome, ReadingMeets, DeliveryConditions, HandsOver}
 use Rattle.delivery.specs.Demand.{SecondHalf, stepAfter, trainOf}
 
 -- the message
@@ -78,7 +78,7 @@ planned-4 = refl
 
 module _ (w : AcknowledgmentWindow) (states : Bool) where
   -- segment i of the plan, as a receive at a reading brings it
-  abbrev arrival : ℕ → ℕ → Arrival
+  abbrev pub arrival : ℕ → ℕ → Arrival
   arrival i now′ =
       record {
         peer = terms₀ .peer;
@@ -93,9 +93,9 @@ module _ (w : AcknowledgmentWindow) (states : Bool) where
   abbrev pub bring : ℕ → ℕ → Call
   bring i now′ = receive (arrival i now′) (replicate 10 0)
 
-  -- Begin, an advance, the End, Begin again; then the middle one
+  -- Begin, an advance, the End, a release, Begin again; then the middle one
   abbrev pub earlier : List Call
-  earlier = bring 0 5 ∷ advance 6 ∷ bring 2 7 ∷ bring 0 8 ∷ []
+  earlier = bring 0 5 ∷ advance 6 ∷ bring 2 7 ∷ release 8 ∷ bring 0 8 ∷ []
 
   abbrev pub last-call : Call
   last-call = bring 1 9
@@ -139,37 +139,52 @@ module _ (w : AcknowledgmentWindow) (states : Bool) where
           reading-meets = record { never-falls = lit≤ tt; in-time = λ s e m. let z : _≡_ {A = ℕ} 5 s = cc in omega arith; below = omega arith };
         },
         (
-          record {
-            index = 0;
-            in-train = lit≤ tt;
-            brings = brings 0 (lit≤ tt) 8;
-            begin-first = λ e. refl;
-            peer = refl;
-            protocol = refl;
-            transaction = refl;
-            parsed = refl;
-            long-enough = lit≤ tt;
-            reading-meets = record { never-falls = lit≤ tt; in-time = λ s e m. let z : _≡_ {A = ℕ} 7 s = cc in omega arith; below = omega arith };
-          },
+          record { never-falls = lit≤ tt; in-time = λ s e m. let z : _≡_ {A = ℕ} 7 s = cc in omega arith; below = omega arith },
           (
             record {
-              index = 1;
+              index = 0;
               in-train = lit≤ tt;
-              brings = brings 1 (lit≤ tt) 9;
-              begin-first = λ e. cc;
+              brings = brings 0 (lit≤ tt) 8;
+              begin-first = λ e. refl;
               peer = refl;
               protocol = refl;
               transaction = refl;
               parsed = refl;
               long-enough = lit≤ tt;
-              reading-meets = record { never-falls = lit≤ tt; in-time = λ s e m. let z : _≡_ {A = ℕ} 8 s = cc in omega arith; below = omega arith };
+              reading-meets = record { never-falls = lit≤ tt; in-time = λ s e m. let z : _≡_ {A = ℕ} 7 s = cc in omega arith; below = omega arith };
             },
-            tt,
+            (
+              record {
+                index = 1;
+                in-train = lit≤ tt;
+                brings = brings 1 (lit≤ tt) 9;
+                begin-first = λ e. cc;
+                peer = refl;
+                protocol = refl;
+                transaction = refl;
+                parsed = refl;
+                long-enough = lit≤ tt;
+                reading-meets = record { never-falls = lit≤ tt; in-time = λ s e m. let z : _≡_ {A = ℕ} 8 s = cc in omega arith; below = omega arith };
+              },
+              tt,
+            ),
           ),
         ),
       ),
     ),
   )
+
+  -- all of them
+  abbrev pub whole : List Call
+  whole = earlier ++ (last-call ∷ [])
+
+  -- the conditions are met with a release after them
+  pub met-released : (interval : ℕ) → 4 < interval → interval ≤ 2 ^ 63 → DeliveryConditions interval terms₀ 0 3 (trainOf (plan₀ w states) text) [] (whole ++ (release 10 ∷ []))
+  met-released interval long short =
+      let m = met interval long short in
+      let last : ReadingMeets interval terms₀ 0 3 (trainOf (plan₀ w states) text) (bring 1 9 ∷ bring 0 8 ∷ release 8 ∷ bring 2 7 ∷ advance 6 ∷ bring 0 5 ∷ []) 10 =
+      record { never-falls = lit≤ tt; in-time = λ s e f. let z : _≡_ {A = ℕ} 9 s = cc in omega arith; below = omega arith } in
+      (m .0, (m .1 .0, (m .1 .1 .0, (m .1 .1 .1 .0, (m .1 .1 .1 .1 .0, (m .1 .1 .1 .1 .1 .0, (last, tt)))))))
 
   -- with the last call every segment has come
   pub all-come : AllHaveCome 3 (trainOf (plan₀ w states) text) (earlier ++ (last-call ∷ []))
@@ -201,7 +216,7 @@ lastStep w states new step = stepAfter step (after step (start (new terms₀ 0 .
 
 -- ours hands the message over with it
 pub handed-over : HandsOver (lastStep window.Prohibited true tryNewOf (stepOf 300000)) text
-unfolding tryNewOf receiveOf advanceOf impossible allBelow sumTo emptySlots emptyLengths joined sameOctets wipedTo marked wordsOf sumBelow highestOf
+unfolding tryNewOf receiveOf advanceOf releaseOf impossible allBelow sumTo emptySlots emptyLengths joined sameOctets wipedTo marked wordsOf sumBelow highestOf
 handed-over = (refl, refl)
 
 -- a receiver of which the second half holds, and which try_new makes
@@ -218,7 +233,13 @@ module _ (interval : ℕ) (long : 4 < interval) (short : interval ≤ 2 ^ 63) (n
       p terms₀ 0 made store₀ text 6 100 window.Every4 (plan₀ window.Every4 false) planned-4 (lit≤ tt) room (earlier window.Every4 false) (last-call window.Every4 false)
       (met window.Every4 false interval long short) .when (all-come window.Every4 false) (not-earlier window.Every4 false)
 
-  -- and hands nothing over with the first call, the Begin
+  -- and hands nothing over with a release after it
+  pub not-released : (k : ℕ) → carried (stepAfter step (after step (start (new terms₀ 0 .receiver) store₀) (whole window.Prohibited true)) (release 10) .answer) ≡ some k → ⊥
+  not-released k e =
+      p terms₀ 0 made store₀ text 6 100 window.Prohibited (plan₀ window.Prohibited true) planned (lit≤ tt) room (whole window.Prohibited true) (release 10)
+      (met-released window.Prohibited true interval long short) .only-when k e .1 (all-come window.Prohibited true)
+
+  -- nor with the first call, the Begin
   pub not-first : (k : ℕ) → carried (step (new terms₀ 0 .receiver) store₀ (bring window.Prohibited true 0 5) .answer) ≡ some k → ⊥
   not-first k e =
       begin-alone window.Prohibited true

@@ -143,6 +143,15 @@ fn cancel(receiver: Receiver, reading: u64, store: &mut [u8]) -> Receiver {
     out.receiver
 }
 
+fn release(receiver: Receiver, reading: u64, store: &mut [u8]) -> Receiver {
+    say(b"  release");
+    say_at(reading);
+    let out = lends::release(receiver, reading, store);
+    let answer = out.answer;
+    says::canceled(answer);
+    out.receiver
+}
+
 // Whether a part stands at an offset.
 fn stands(octets: &[u8], from: usize, part: &[u8]) -> bool {
     let n = part.len();
@@ -177,13 +186,14 @@ fn past_slots(store: &[u8]) {
     );
 }
 
-// A message of three segments: the second comes last, after the deadline asked for it.
+// A message of three segments: the second comes last, after the deadline asked for it. Then the receiver is released.
 pub fn rebuilt() {
     let mut store = [FILL; 65_290];
     let mut output = [FILL; 700];
     let first = [0x41u8; 255];
     let second = [0x42u8; 255];
     let third = [0x43u8; 90];
+    let wiped = [0u8; SLOTS_OCTETS];
     say(b"a message of 600 octets in three segments\n");
     let mut r = made(1);
     r = advance(r, 900, &mut store);
@@ -192,8 +202,13 @@ pub fn rebuilt() {
     r = receive(r, begin(1), &first, 3_000, &mut store, &mut output);
     r = advance(r, 302_999, &mut store);
     r = advance(r, 303_000, &mut store);
+    r = release(r, 303_500, &mut store);
     r = receive(r, middle(1), &second, 304_000, &mut store, &mut output);
     r = cancel(r, 305_000, &mut store);
+    r = release(r, 306_000, &mut store);
+    r = receive(r, middle(1), &second, 307_000, &mut store, &mut output);
+    r = release(r, 308_000, &mut store);
+    says::holds(b"  slots of the store all 0", stands(&store, 0, &wiped));
     handed_over(&output, &first, &second, &third);
     past_slots(&store);
 }
@@ -204,7 +219,7 @@ pub fn broken_off() {
     let mut output = [FILL; 700];
     let first = [0x44u8; 255];
     let second = [0x45u8; 255];
-    let wiped = [0u8; 65_280];
+    let wiped = [0u8; SLOTS_OCTETS];
     say(b"a reception that is canceled\n");
     let mut r = made(2);
     r = receive(r, middle(2), &second, 500, &mut store, &mut output);

@@ -10,7 +10,7 @@ use receiver::Receiver;
 use tsar::Segment;
 ghost use mathlib.Core.Path.{_≡_};
 ghost use Rattle.receiver.specs.Receive.{receiveOf};
-ghost use Rattle.receiver.specs.Advance.{advanceOf, cancelOf};
+ghost use Rattle.receiver.specs.Advance.{advanceOf, cancelOf, releaseOf};
 ghost use Rattle.receiver.specs.Says.{received, advanced, canceled};
 
 pub fn receive(
@@ -59,6 +59,17 @@ pub fn cancel(receiver: Receiver, monotonic_ms: u64, store: &mut [u8]) -> Cancel
 {
     let mut lent = LentReceiver { receiver };
     let answer = lent.cancel(monotonic_ms, store);
+    Cancel {
+        answer,
+        receiver: lent.receiver,
+    }
+}
+
+pub fn release(receiver: Receiver, monotonic_ms: u64, store: &mut [u8]) -> Cancel
+    ensures { λ r. ⌜ canceled r (now (store .exit)) ≡ releaseOf receiver (now (store .entry)) «monotonic_ms» ⌝ }
+{
+    let mut lent = LentReceiver { receiver };
+    let answer = lent.release(monotonic_ms, store);
     Cancel {
         answer,
         receiver: lent.receiver,

@@ -1,9 +1,10 @@
-// The receiver as the firmware calls it: lent by `&mut`, with receive, advance and cancel as the source names them. Each takes what is lent
-// apart, makes the call of the same name by value, stores what that hands back, and answers.
+// The receiver as the firmware calls it: lent by `&mut`, with receive, advance and cancel as the source names them, and release. Each takes
+// what is lent apart, makes the call of the same name by value, stores what that hands back, and answers.
 //
-// The contracts cite the definitions of the calls by value, receiveOf, advanceOf and cancelOf, at the record, the store and the output on
-// entry and on exit. These are the step function stepOf (crates/delivery, specs/Calls) of which demand 3 is proved (specs/Theorem, demand3):
-// a list of lent calls goes through the steps that demand 3 speaks of, so its statement is carried over to the lent calls as it stands.
+// The contracts cite the definitions of the calls by value, receiveOf, advanceOf, cancelOf and releaseOf, at the record, the store and the
+// output on entry and on exit. These are the step function stepOf (crates/delivery, specs/Calls) of which demand 3 is proved (specs/Theorem,
+// demand3): a list of lent calls goes through the steps that demand 3 speaks of, so its statement is carried over to the lent calls as it
+// stands.
 use link::HigherLayerProtocol;
 use link::MobileIdentity;
 use receiver::AdvanceAnswer;
@@ -13,7 +14,7 @@ use receiver::Receiver;
 use tsar::Segment;
 ghost use mathlib.Core.Path.{_≡_};
 ghost use Rattle.receiver.specs.Receive.{receiveOf};
-ghost use Rattle.receiver.specs.Advance.{advanceOf, cancelOf};
+ghost use Rattle.receiver.specs.Advance.{advanceOf, cancelOf, releaseOf};
 ghost use Rattle.receiver.specs.Says.{received, advanced, canceled};
 
 // A receiver that the firmware keeps in one place and lends to each call.
@@ -64,6 +65,15 @@ impl LentReceiver {
     {
         let receiver = self.receiver;
         let out = receiver.cancel(monotonic_ms, store);
+        self.receiver = out.receiver;
+        out.answer
+    }
+
+    pub fn release(&mut self, monotonic_ms: u64, store: &mut [u8]) -> CancelAnswer
+        ensures { λ r. ⌜ canceled (record { answer = r; receiver = now (self .exit) .receiver }) (now (store .exit)) ≡ releaseOf (now (self .entry) .receiver) (now (store .entry)) «monotonic_ms» ⌝ }
+    {
+        let receiver = self.receiver;
+        let out = receiver.release(monotonic_ms, store);
         self.receiver = out.receiver;
         out.answer
     }

@@ -1,6 +1,6 @@
 -- What the calls answer and leave, from what their checks say: refused, or gone on with. Assumes nothing.
 use mathlib.Core.Path.{_≡_, sym, ap, ap₂, _∙_}
-use mathlib.Core.Bool.{Bool}
+use mathlib.Core.Bool.{Bool, _||_}
 use mathlib.Core.List.{List, []}
 use mathlib.Core.Option.{Option, none, some}
 use Prim.Native.Nat.{ℕ, _≤_}
@@ -16,12 +16,12 @@ use Rattle.receiver.specs.declared.checks.Brought.{Brought}
 use Rattle.receiver.specs.declared.machine.Fired.{Fired}
 use Rattle.receiver.specs.declared.turns.Slots.{Slots}
 use Rattle.receiver.specs.declared.turns.Turn.{Turn}
-use Rattle.receiver.specs.Record.{kindAt, late, due, impossible, wiped, closed}
+use Rattle.receiver.specs.Record.{awaiting, receiving, complete, kindAt, late, due, impossible, wiped, closed}
 use Rattle.receiver.specs.Answers.{Step, refuses, answered}
 use Rattle.receiver.specs.Receive.{Arrival, receiveRows, receiveAfter, receiveOf}
-use Rattle.receiver.specs.Advance.{Made, tryNewRows, madeAfter, tryNewOf, noReceiver, empty, fires, advanceAfter, advanceOf, cancelAfter, cancelOf}
+use Rattle.receiver.specs.Advance.{Made, tryNewRows, madeAfter, tryNewOf, noReceiver, empty, fires, advanceAfter, advanceOf, cancelAfter, cancelOf, releaseOf}
 use Rattle.receiver.specs.Says.{received, advanced}
-use Rattle.receiver.specs.Steps.{fired, faultsOf, clockRowsOf, cancelRowsOf, arrivalRows, arrived, turned, Fits, takenOf}
+use Rattle.receiver.specs.Steps.{fired, faultsOf, clockRowsOf, closingRowsOf, closingOf, arrivalRows, arrived, turned, Fits, takenOf}
 use Rattle.receiver.proofs.Possible.{count-small}
 use Rattle.receiver.proofs.Settling.{late-arrived}
 
@@ -43,7 +43,7 @@ pub impossible-is : (r : Receiver) (b : Bool) → b ≡ anyOf (faultsOf (r .term
 unfolding impossible
 impossible-is r b e = e
 
--- ---- advance and cancel
+-- ---- advance, cancel and release
 
 module _ (r : Receiver) (store : List ℕ) (reading : ℕ) (bad : Bool) (b : bad ≡ impossible r) where
   abbrev clock : Option Refusal → Type 0
@@ -66,19 +66,32 @@ module _ (r : Receiver) (store : List ℕ) (reading : ℕ) (bad : Bool) (b : bad
   advance-fired x t store′ e et h =
       ap (λ (b : Bool). advanced (fired r (record { reply = x .reply; progress = x .progress; expired = b })) store′) (sym et) ∙ h ∙ advance-passed e
 
-  abbrev canceling : Option Refusal → Type 0
-  canceling o = o ≡ refusal (cancelRowsOf (length store) bad (r .progress) reading)
+  module _ (allowed : Bool) where
+    abbrev closing : Option Refusal → Type 0
+    closing o = o ≡ refusal (closingRowsOf (length store) bad (r .progress .«last_monotonic_ms») reading allowed)
 
-  pub cancel-refused : (n : Refusal) → canceling (some n) → refuses n r store [] ≡ cancelOf r store reading
-  unfolding cancelOf
-  cancel-refused n e =
-      ap (λ (o : Option Refusal). cancelAfter o r store reading) (e ∙ ap (λ (x : Bool). refusal (cancelRowsOf (length store) x (r .progress) reading)) b)
+    -- what the rows say of the record is what they say of its fields
+    closes-as : (o : Option Refusal) → closing o → cancelAfter o r store reading ≡ closingOf allowed r store reading
+    unfolding closingOf
+    closes-as o e =
+        ap (λ (p : Option Refusal). cancelAfter p r store reading) (e ∙ ap (λ (x : Bool). refusal (closingRowsOf (length store) x (r .progress .«last_monotonic_ms») reading allowed)) b)
 
-  pub cancel-passed : (x : Receiver) (store′ : List ℕ) → x ≡ closed r state.Canceled reading → store′ ≡ wiped store → canceling none → _≡_ {A = Step} (record { answer = answered none none; receiver = x; store = store′; output = [] }) (cancelOf r store reading)
-  unfolding cancelOf
-  cancel-passed x store′ ex es e =
-      ap₂ {C = Step} (λ (y : Receiver) (l : List ℕ). record { answer = answered none none; receiver = y; store = l; output = [] }) ex es
-      ∙ ap (λ (o : Option Refusal). cancelAfter o r store reading) (e ∙ ap (λ (x : Bool). refusal (cancelRowsOf (length store) x (r .progress) reading)) b)
+    pub close-refused : (n : Refusal) → closing (some n) → refuses n r store [] ≡ closingOf allowed r store reading
+    close-refused n e = closes-as (some n) e
+
+    pub close-passed : (x : Receiver) (store′ : List ℕ) → x ≡ closed r state.Canceled reading → store′ ≡ wiped store → closing none → _≡_ {A = Step} (record { answer = answered none none; receiver = x; store = store′; output = [] }) (closingOf allowed r store reading)
+    close-passed x store′ ex es e =
+        ap₂ {C = Step} (λ (y : Receiver) (l : List ℕ). record { answer = answered none none; receiver = y; store = l; output = [] }) ex es
+        ∙ closes-as none e
+
+-- cancel closes an open reception, release a complete one
+pub cancel-is : (r : Receiver) (store : List ℕ) (reading : ℕ) (allowed : Bool) → allowed ≡ (awaiting (r .progress .state) || receiving (r .progress .state)) → closingOf allowed r store reading ≡ cancelOf r store reading
+unfolding closingOf cancelOf
+cancel-is r store reading allowed e = ap (λ (b : Bool). closingOf b r store reading) e
+
+pub release-is : (r : Receiver) (store : List ℕ) (reading : ℕ) (allowed : Bool) → allowed ≡ complete (r .progress .state) → closingOf allowed r store reading ≡ releaseOf r store reading
+unfolding closingOf releaseOf
+release-is r store reading allowed e = ap (λ (b : Bool). closingOf b r store reading) e
 
 -- ---- receive
 

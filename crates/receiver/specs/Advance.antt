@@ -1,4 +1,4 @@
--- What try_new, advance and cancel answer and leave.
+-- What try_new, advance, cancel and release answer and leave.
 use Prim.Native.Nat.{ℕ, _+_, _-_}
 use mathlib.Core.List.{List, [], _∷_, _++_}
 use mathlib.Core.Bool.{Bool, true, false, not, _||_}
@@ -23,7 +23,7 @@ use Rattle.receiver.specs.declared.EndSequence.the-variants as end
 use Rattle.receiver.specs.declared.Deadline.the-variants as deadline
 use Rattle.receiver.specs.declared.Terms.{Terms}
 use Rattle.receiver.specs.declared.Receiver.{Receiver}
-use Rattle.receiver.specs.Record.{awaiting, receiving, due, storeOctets, emptySlots, emptyLengths, wiped, impossible, with, timed, read, closed}
+use Rattle.receiver.specs.Record.{awaiting, receiving, complete, due, storeOctets, emptySlots, emptyLengths, wiped, impossible, with, timed, read, closed}
 use Rattle.receiver.specs.Answers.{Step, refuses, respond, refused, answered}
 use Rattle.receiver.specs.Receive.{kind}
 
@@ -76,7 +76,7 @@ madeAfter none t now′ = record { refused = none; receiver = empty t AwaitingBe
 unfoldable pub tryNewOf : Terms → ℕ → Made
 tryNewOf t now′ = madeAfter (refusal (tryNewRows t)) t now′
 
--- ---- advance and cancel
+-- ---- advance, cancel and release
 
 -- 60, 62, 33
 abbrev pub clockRows : Receiver → List ℕ → ℕ → List (Bool × Refusal)
@@ -113,3 +113,13 @@ cancelAfter none r store now′ = record { answer = answered none none; receiver
 
 unfoldable pub cancelOf : Receiver → List ℕ → ℕ → Step
 cancelOf r store now′ = cancelAfter (refusal (cancelRows r store now′)) r store now′
+
+-- Document 02, 2026-07: 'Add a release call for a Complete receiver: it wipes the store, empties slots and count as cancelling does, takes the
+-- reading, leaves the state Canceled and answers as cancel does. .. Release gives 60, 62 and 33 in that order, and 38 unless the receiver is
+-- Complete.'
+abbrev pub releaseRows : Receiver → List ℕ → ℕ → List (Bool × Refusal)
+releaseRows r store now′ = clockRows r store now′ ++ ((not (complete (r .progress .state)), (38, 0)) ∷ [])
+
+-- where no row refuses it, it answers and leaves what a cancel does that is not refused
+unfoldable pub releaseOf : Receiver → List ℕ → ℕ → Step
+releaseOf r store now′ = cancelAfter (refusal (releaseRows r store now′)) r store now′

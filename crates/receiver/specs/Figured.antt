@@ -33,7 +33,7 @@ use Rattle.receiver.specs.declared.Reported.{Reported}
 use Rattle.receiver.specs.Record.{complete, due, late}
 use Rattle.receiver.specs.Answers.{Answer, refused, answered, foundOr0, highest, lastEntry, respond, required, requiredResponse, listed, listedIn, failResponse}
 use Rattle.receiver.specs.Receive.{Arrival, kind, sequence, Stage, before, begun, noted, keeping, Outcome, fails, repeats, closes, keeps, finishes, endOf, slotRules, receiveRows, kept, atStage, settle, lateOr, receiveAfter, receiveOf}
-use Rattle.receiver.specs.Advance.{clockRows, cancelRows, fires, advanceAfter, advanceOf, cancelAfter, cancelOf}
+use Rattle.receiver.specs.Advance.{clockRows, cancelRows, releaseRows, fires, advanceAfter, advanceOf, cancelAfter, cancelOf, releaseOf}
 
 -- ---- what is said of an answer
 
@@ -127,14 +127,18 @@ receive-own interval r a store out = receives OwnFigures Any own-responds (λ x 
 pub advance-own : (r : Receiver) (store : List ℕ) (now′ : ℕ) → CarriedIn OwnFigures (advanceOf r store now′ .answer)
 advance-own r store now′ = advances OwnFigures Any own-responds (λ x h. h) r store now′ tt
 
--- a cancel carries none
+-- a cancel carries none, nor does a release
+closing-none : (o : Option Refusal) (r : Receiver) (store : List ℕ) (now′ : ℕ) → CarriedIn (λ x. ⊥) (cancelAfter o r store now′ .answer)
+closing-none (some n) r store now′ = tt
+closing-none none r store now′ = tt
+
 pub cancel-none : (r : Receiver) (store : List ℕ) (now′ : ℕ) → CarriedIn (λ x. ⊥) (cancelOf r store now′ .answer)
 unfolding cancelOf
-cancel-none r store now′ = go (refusal (cancelRows r store now′))
-  where
-    go : (o : Option Refusal) → CarriedIn (λ x. ⊥) (cancelAfter o r store now′ .answer)
-    go (some n) = tt
-    go none = tt
+cancel-none r store now′ = closing-none (refusal (cancelRows r store now′)) r store now′
+
+pub release-none : (r : Receiver) (store : List ℕ) (now′ : ℕ) → CarriedIn (λ x. ⊥) (releaseOf r store now′ .answer)
+unfolding releaseOf
+release-none r store now′ = closing-none (refusal (releaseRows r store now′)) r store now′
 
 -- ---- and they say of it what they should
 

@@ -13,7 +13,7 @@ use Rattle.words.specs.Marks.{bit, marked, noMarks, wordsOf, allBelow}
 use Rattle.words.specs.declared.Words.{Words}
 use Rattle.link.specs.Peer.{sameIdentity, sameProtocol}
 use Rattle.link.specs.declared.HigherLayerProtocol.the-variants.{Segmented}
-use Rattle.tsar.specs.Rows.{Refusal, firstOf}
+use Rattle.tsar.specs.Rows.{Refusal, firstOf, refusal}
 use Rattle.tsar.specs.Kinds.{isBegin, isContinue, isEnd, compresses, selectsCrc, hasCrc, prohibited, statesOther}
 use Rattle.tsar.specs.Writing.{codecRows, lengthIn, crcIn}
 use Rattle.tsar.specs.declared.AcknowledgmentWindow.{AcknowledgmentWindow}
@@ -54,6 +54,7 @@ use Rattle.receiver.specs.Numbers.{receiveNumber}
 use Rattle.receiver.specs.Record.{taking, awaiting, receiving, complete, receivingOrComplete, statesBelow, statesAbove, clash, pastEnd, otherEnd, running, storeOctets, heldLength, sumTo, isHeld, kindAt, lengthAt, part, emptySlots, emptyLengths, gap, late, wiped, with, read}
 use Rattle.receiver.specs.Answers.{Step, refused, answered, refuses, lastEntry, acknowledges, periodic, reported, listedIn}
 use Rattle.receiver.specs.Says.{received}
+use Rattle.receiver.specs.Advance.{clockRows, cancelAfter}
 use Rattle.receiver.specs.Receive as receive
 use Rattle.receiver.specs.Receive.{Arrival, Outcome, fails, repeats, closes, keeps, finishes, before, begun, noted, keeping, servicesOf, statedOf, endOf, sameKind, slotRules, settle, lateOr}
 
@@ -152,12 +153,12 @@ checkSays (check.Refused e) = some (receiveNumber e)
 abbrev pub clockRowsOf : ℕ → Bool → ℕ → ℕ → List (Bool × Refusal)
 clockRowsOf store bad last reading = (ltb store storeOctets, (60, 0)) ∷ (bad, (62, 0)) ∷ (ltb reading last, (33, 0)) ∷ []
 
--- and cancel's 38
-abbrev pub openRows : ReceiverState → List (Bool × Refusal)
-openRows s = (not (awaiting s || receiving s), (38, 0)) ∷ []
+-- and 38, unless the state allows cancel or release
+abbrev pub allowedRow : Bool → List (Bool × Refusal)
+allowedRow allowed = (not allowed, (38, 0)) ∷ []
 
-abbrev pub cancelRowsOf : ℕ → Bool → Progress → ℕ → List (Bool × Refusal)
-cancelRowsOf store bad p reading = clockRowsOf store bad (p .«last_monotonic_ms») reading ++ openRows (p .state)
+abbrev pub closingRowsOf : ℕ → Bool → ℕ → ℕ → Bool → List (Bool × Refusal)
+closingRowsOf store bad last reading allowed = clockRowsOf store bad last reading ++ allowedRow allowed
 
 -- 60, 61, 62, 33, 30, 31, 32
 abbrev pub addressRows : ℕ → ℕ → Bool → ℕ → Terms → Brought → List (Bool × Refusal)
@@ -351,3 +352,7 @@ settledOf r a store out = settle 300000 (firstOf (slotRules r a store) keeps) r 
 unfoldable pub takenOf : Receiver → Arrival → List ℕ → List ℕ → Step
 takenOf r a store out =
     lateOr 300000 (late (r .progress .«deadline_monotonic_ms») (a .reading)) (prohibited (r .progress .services .«acknowledgment_window»)) r a store out
+
+-- cancel and release, by whether the state allows them
+unfoldable pub closingOf : Bool → Receiver → List ℕ → ℕ → Step
+closingOf allowed r store reading = cancelAfter (refusal (clockRows r store reading ++ allowedRow allowed)) r store reading

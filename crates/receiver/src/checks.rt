@@ -8,8 +8,6 @@ use crate::Terms;
 use crate::kinds::is_begin;
 use crate::states::awaiting;
 use crate::states::both;
-use crate::states::either;
-use crate::states::receiving;
 use crate::states::smaller;
 use crate::states::taking;
 use link::HigherLayerProtocol;
@@ -18,7 +16,7 @@ use tsar::Segment;
 use tsar::Validated;
 ghost use mathlib.Core.Path.{_≡_};
 ghost use Rattle.tsar.specs.Rows.{refusal};
-ghost use Rattle.receiver.specs.Steps.{checkSays, clockRowsOf, cancelRowsOf, addressRows, segmentRows, arrivalRows};
+ghost use Rattle.receiver.specs.Steps.{checkSays, clockRowsOf, closingRowsOf, addressRows, segmentRows, arrivalRows};
 
 // What the tests before a call's work say.
 pub enum Check {
@@ -52,16 +50,14 @@ pub fn clock_check(store: usize, bad: bool, last: u64, reading: u64) -> Check
     Check::Passed
 }
 
-// 60, 62, 33, 38: only an open reception can be canceled.
-pub fn cancel_check(store: usize, bad: bool, progress: Progress, reading: u64) -> Check
-    ensures { λ r. ⌜ checkSays r ≡ refusal (cancelRowsOf store bad progress reading) ⌝ }
+// 60, 62, 33, 38: `allowed` is whether the state can be canceled, or released.
+pub fn closing_check(store: usize, bad: bool, last: u64, reading: u64, allowed: bool) -> Check
+    ensures { λ r. ⌜ checkSays r ≡ refusal (closingRowsOf store bad last reading allowed) ⌝ }
 {
-    let last = progress.last_monotonic_ms;
     match clock_check(store, bad, last, reading) {
         Check::Refused(e) => Check::Refused(e),
         Check::Passed => {
-            let state = progress.state;
-            if either(awaiting(state), receiving(state)) {
+            if allowed {
                 return Check::Passed;
             }
             Check::Refused(ReceiveError::Closed)

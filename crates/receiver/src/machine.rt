@@ -1,4 +1,4 @@
-// The calls: try_new, receive, advance and cancel.
+// The calls: try_new, receive, advance, cancel and release.
 use crate::Advance;
 use crate::AdvanceAnswer;
 use crate::Cancel;
@@ -20,15 +20,19 @@ use crate::TryNewAnswer;
 use crate::checks::Brought;
 use crate::checks::Check;
 use crate::checks::arrival_check;
-use crate::checks::cancel_check;
 use crate::checks::clock_check;
+use crate::checks::closing_check;
 use crate::faults::impossible;
 use crate::kinds::prohibited;
 use crate::kinds::services_or_default;
 use crate::replies::Standing;
 use crate::replies::respond;
 use crate::replies::standing_of;
+use crate::states::awaiting;
+use crate::states::complete;
 use crate::states::due;
+use crate::states::either;
+use crate::states::receiving;
 use crate::states::wide;
 use crate::turns::Slots;
 use crate::turns::closed_progress;
@@ -49,9 +53,9 @@ ghost use Rattle.tsar.specs.Rows.{refusal};
 ghost use Rattle.tsar.specs.Kinds.{prohibited as prohibitedOf};
 ghost use Rattle.receiver.specs.Record.{emptySlots, emptyLengths, wiped, due as dueOf};
 ghost use Rattle.receiver.specs.Receive.{receiveOf};
-ghost use Rattle.receiver.specs.Advance.{empty as emptyOf, tryNewRows, fires, tryNewOf, advanceOf, cancelOf};
+ghost use Rattle.receiver.specs.Advance.{empty as emptyOf, tryNewRows, fires, tryNewOf, advanceOf, cancelOf, releaseOf};
 ghost use Rattle.receiver.specs.Says.{made, received, advanced, canceled};
-ghost use Rattle.receiver.specs.Steps.{emptiedAs, checkSays, noTerms, fired};
+ghost use Rattle.receiver.specs.Steps.{emptiedAs, checkSays, noTerms, fired, closingOf};
 
 // What a deadline does, where it is due: the reply, and the progress of a reception that goes on or has expired.
 pub struct Fired {
@@ -280,8 +284,9 @@ impl Receiver {
         }
     }
 
-    pub fn cancel(self, monotonic_ms: u64, store: &mut [u8]) -> Cancel
-        ensures { λ r. ⌜ canceled r (now (store .exit)) ≡ cancelOf self (now (store .entry)) «monotonic_ms» ⌝ }
+    // What cancel and release do, where the state allows it: wipe the store, and close with nothing held.
+    fn close(self, allowed: bool, monotonic_ms: u64, store: &mut [u8]) -> Cancel
+        ensures { λ r. ⌜ canceled r (now (store .exit)) ≡ closingOf allowed self (now (store .entry)) «monotonic_ms» ⌝ }
     {
         let terms = self.terms;
         let progress = self.progress;
@@ -295,7 +300,8 @@ impl Receiver {
             &self.lengths,
             first,
         );
-        match cancel_check(store.len(), bad, progress, monotonic_ms) {
+        let last = progress.last_monotonic_ms;
+        match closing_check(store.len(), bad, last, monotonic_ms, allowed) {
             Check::Refused(e) => Cancel {
                 answer: CancelAnswer::Refused(e),
                 receiver: self,
@@ -311,6 +317,26 @@ impl Receiver {
                 }
             }
         }
+    }
+
+    // Only an open reception can be canceled.
+    pub fn cancel(self, monotonic_ms: u64, store: &mut [u8]) -> Cancel
+        ensures { λ r. ⌜ canceled r (now (store .exit)) ≡ cancelOf self (now (store .entry)) «monotonic_ms» ⌝ }
+    {
+        let progress = self.progress;
+        let state = progress.state;
+        let allowed = either(awaiting(state), receiving(state));
+        self.close(allowed, monotonic_ms, store)
+    }
+
+    // Only a complete one can be released.
+    pub fn release(self, monotonic_ms: u64, store: &mut [u8]) -> Cancel
+        ensures { λ r. ⌜ canceled r (now (store .exit)) ≡ releaseOf self (now (store .entry)) «monotonic_ms» ⌝ }
+    {
+        let progress = self.progress;
+        let state = progress.state;
+        let allowed = complete(state);
+        self.close(allowed, monotonic_ms, store)
     }
 
     // The one function that writes to the slots; what a segment does is found out before, over the rest of the record.

@@ -41,6 +41,6 @@ abbrev pub receptionOctets : Answer → List ℕ
 receptionOctets (refused n) = []
 receptionOctets (answered r m) = receptionImage r m
 
--- a cancel is lent no answer
+-- a cancel and a release are lent no answer
 abbrev pub noOctets : Answer → List ℕ
 noOctets a = []

@@ -53,7 +53,7 @@ pub fn error_code(e: ReceiveError) -> u32
     }
 }
 
-// The number of a cancel.
+// The number of a cancel, and of a release.
 pub fn cancel_code(a: CancelAnswer) -> u32
     ensures { λ r. ⌜ r ≡ answerCode (cancelSays a) ⌝ }
 {

@@ -1,4 +1,4 @@
--- What catkhize_receiver_new, _receive, _advance and _cancel give and leave in each lent buffer: the exports' own tests, then the receiver's
+-- What catkhize_receiver_new, _receive, _advance, _cancel and _release give and leave in each lent buffer: the exports' own tests, then the receiver's
 -- definitions. Each call's arguments stand in the order of the export.
 use mathlib.Core.Bool.{Bool, not, cond}
 use mathlib.Core.List.{List, [], _∷_}
@@ -11,7 +11,7 @@ use Rattle.tsar.specs.Rows.{Refusal, refusal}
 use Rattle.receiver.specs.declared.Receiver.{Receiver}
 use Rattle.receiver.specs.Answers.{Answer, Step}
 use Rattle.receiver.specs.Receive.{receiveOf}
-use Rattle.receiver.specs.Advance.{Made, tryNewOf, advanceOf, cancelOf}
+use Rattle.receiver.specs.Advance.{Made, tryNewOf, advanceOf, cancelOf, releaseOf}
 use Rattle.codec_c.specs.Codes.{codeOf, short, misspelled, unnamed, unlessRefused}
 use Rattle.image.specs.Segments.{segmentOf, segmentOk}
 use Rattle.image.specs.Cases.{protocolOf}
@@ -97,16 +97,23 @@ advanceCall image store reading answer =
     unlessRefused (refusal (advanceTests image answer)) (λ n. call n image store [] answer)
     (stepCall replyOctets image answer (advanceOf (recordOf image) store reading))
 
--- ---- catkhize_receiver_cancel
+-- ---- catkhize_receiver_cancel and catkhize_receiver_release
 
 -- a record is 3930 octets
-abbrev pub cancelTests : List ℕ → List (Bool × Refusal)
-cancelTests image = (ltb (length image) 3930, short) ∷ (not (imageOk image), misspelled) ∷ []
+abbrev pub closingTests : List ℕ → List (Bool × Refusal)
+closingTests image = (ltb (length image) 3930, short) ∷ (not (imageOk image), misspelled) ∷ []
+
+-- either, by the step that it makes; neither is lent an answer
+abbrev pub closingCall : (Receiver → List ℕ → ℕ → Step) → (image store : List ℕ) (reading : ℕ) → Call
+closingCall step image store reading =
+    unlessRefused (refusal (closingTests image)) (λ n. call n image store [] [])
+    (stepCall noOctets image [] (step (recordOf image) store reading))
 
 unfoldable pub cancelCall : (image store : List ℕ) (reading : ℕ) → Call
-cancelCall image store reading =
-    unlessRefused (refusal (cancelTests image)) (λ n. call n image store [] [])
-    (stepCall noOctets image [] (cancelOf (recordOf image) store reading))
+cancelCall image store reading = closingCall cancelOf image store reading
+
+unfoldable pub releaseCall : (image store : List ℕ) (reading : ℕ) → Call
+releaseCall image store reading = closingCall releaseOf image store reading
 
 -- ---- catkhize_receiver_new
 

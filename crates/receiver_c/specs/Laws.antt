@@ -12,14 +12,14 @@ use Rattle.link.specs.declared.HigherLayerProtocol.{HigherLayerProtocol}
 use Rattle.receiver.specs.declared.Receiver.{Receiver}
 use Rattle.receiver.specs.Answers.{Answer, Step}
 use Rattle.receiver.specs.Receive.{receiveOf}
-use Rattle.receiver.specs.Advance.{Made, tryNewOf, advanceOf, cancelOf}
+use Rattle.receiver.specs.Advance.{Made, tryNewOf, advanceOf, cancelOf, releaseOf}
 use Rattle.codec_c.specs.Codes.{codeOf, unlessRefused}
 use Rattle.image.specs.Spelling.{put-spells}
 use Rattle.image.specs.Segments.{segmentOf}
 use Rattle.image.specs.Cases.{protocolOf}
 use Rattle.receiver_image.specs.Images.{imageOf, recordOf, ReceiverFits, receiver-layout}
 use Rattle.receiver_answers.specs.Answers.{answerCode, replyOctets, receptionOctets, noOctets}
-use Rattle.receiver_c.specs.Calls.{Call, spelledBy, call, stepCall, receiveTests, receiveCall, advanceTests, advanceCall, cancelTests, cancelCall, newTests, newGives, newCall}
+use Rattle.receiver_c.specs.Calls.{Call, spelledBy, call, stepCall, receiveTests, receiveCall, advanceTests, advanceCall, closingTests, closingCall, cancelCall, releaseCall, newTests, newGives, newCall}
 
 -- ---- tests
 
@@ -80,17 +80,35 @@ module _ (image store : List ℕ) (reading : ℕ) (answer : List ℕ) where
   unfolding advanceCall
   advance-passed r e a = ap (λ (x : Receiver). stepCall replyOctets image answer (advanceOf x store reading)) a ∙ when-passed (λ n. call n image store [] answer) _ e
 
--- ---- catkhize_receiver_cancel
+-- ---- catkhize_receiver_cancel and catkhize_receiver_release
+
+-- either, by the step that it makes
+module _ (step : Receiver → List ℕ → ℕ → Step) (image store : List ℕ) (reading : ℕ) where
+  closing-refused : (x : Refusal) → refusal (closingTests image) ≡ some x → call (codeOf x) image store [] [] ≡ closingCall step image store reading
+  closing-refused x e = when-refused (λ n. call n image store [] []) _ x e
+
+  closing-passed : (r : Receiver) → refusal (closingTests image) ≡ none → r ≡ recordOf image
+      → stepCall noOctets image [] (step r store reading) ≡ closingCall step image store reading
+  closing-passed r e a = ap (λ (x : Receiver). stepCall noOctets image [] (step x store reading)) a ∙ when-passed (λ n. call n image store [] []) _ e
 
 module _ (image store : List ℕ) (reading : ℕ) where
-  pub cancel-refused : (x : Refusal) → refusal (cancelTests image) ≡ some x → call (codeOf x) image store [] [] ≡ cancelCall image store reading
+  pub cancel-refused : (x : Refusal) → refusal (closingTests image) ≡ some x → call (codeOf x) image store [] [] ≡ cancelCall image store reading
   unfolding cancelCall
-  cancel-refused x e = when-refused (λ n. call n image store [] []) _ x e
+  cancel-refused x e = closing-refused cancelOf image store reading x e
 
-  pub cancel-passed : (r : Receiver) → refusal (cancelTests image) ≡ none → r ≡ recordOf image
+  pub cancel-passed : (r : Receiver) → refusal (closingTests image) ≡ none → r ≡ recordOf image
       → stepCall noOctets image [] (cancelOf r store reading) ≡ cancelCall image store reading
   unfolding cancelCall
-  cancel-passed r e a = ap (λ (x : Receiver). stepCall noOctets image [] (cancelOf x store reading)) a ∙ when-passed (λ n. call n image store [] []) _ e
+  cancel-passed r e a = closing-passed cancelOf image store reading r e a
+
+  pub release-refused : (x : Refusal) → refusal (closingTests image) ≡ some x → call (codeOf x) image store [] [] ≡ releaseCall image store reading
+  unfolding releaseCall
+  release-refused x e = closing-refused releaseOf image store reading x e
+
+  pub release-passed : (r : Receiver) → refusal (closingTests image) ≡ none → r ≡ recordOf image
+      → stepCall noOctets image [] (releaseOf r store reading) ≡ releaseCall image store reading
+  unfolding releaseCall
+  release-passed r e a = closing-passed releaseOf image store reading r e a
 
 -- ---- catkhize_receiver_new
 

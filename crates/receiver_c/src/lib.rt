@@ -26,10 +26,10 @@ ghost use mathlib.Core.List.{[]};
 ghost use Prim.Native.Nat.{_≤_};
 ghost use lib.ListN.{length};
 ghost use Rattle.receiver.specs.Receive.{receiveOf};
-ghost use Rattle.receiver.specs.Advance.{advanceOf, cancelOf};
+ghost use Rattle.receiver.specs.Advance.{advanceOf, cancelOf, releaseOf};
 ghost use Rattle.receiver.specs.Says.{made};
 ghost use Rattle.receiver_answers.specs.Answers.{replyOctets, receptionOctets, noOctets};
-ghost use Rattle.receiver_c.specs.Calls.{call, stepCall, newGives, newCall, receiveCall, advanceCall, cancelCall};
+ghost use Rattle.receiver_c.specs.Calls.{call, stepCall, newGives, newCall, receiveCall, advanceCall, cancelCall, releaseCall};
 
 // The last protocol's number.
 const LAST_PROTOCOL: u8 = 2;
@@ -248,4 +248,31 @@ pub fn catkhize_receiver_cancel(record: &mut [u8], store: &mut [u8], reading: u6
     }
     let receiver = read.receiver;
     cancel_into(receiver, record, store, reading)
+}
+
+// A release of the receiver that the record spells. The one that it leaves is put back, also beside a refusal.
+fn release_into(receiver: Receiver, record: &mut [u8], store: &mut [u8], reading: u64) -> u32
+    requires { ⌜ 3930 ≤ length (now «record») ⌝ }
+    ensures { λ r. ⌜ call r (now («record» .exit)) (now (store .exit)) [] [] ≡ stepCall noOctets (now («record» .entry)) [] (releaseOf receiver (now (store .entry)) reading) ⌝ }
+{
+    let given = receiver.release(reading, store);
+    let released = given.receiver;
+    let answer = given.answer;
+    put_receiver(record, released);
+    cancel_code(answer)
+}
+
+// Releases the store of a complete reception.
+pub fn catkhize_receiver_release(record: &mut [u8], store: &mut [u8], reading: u64) -> u32
+    ensures { λ r. ⌜ call r (now («record» .exit)) (now (store .exit)) [] [] ≡ releaseCall (now («record» .entry)) (now (store .entry)) reading ⌝ }
+{
+    if record.len() < RECEIVER_OCTETS {
+        return SHORT;
+    }
+    let read = get_receiver(record);
+    if !read.ok {
+        return MISSPELLED;
+    }
+    let receiver = read.receiver;
+    release_into(receiver, record, store, reading)
 }

@@ -53,7 +53,7 @@ pub const MESSAGE: usize = 46;
 pub const RECEPTION_OCTETS: usize = 55;
 
 // RECEIVER: peer kind, width and value; protocol and its octet; transaction; version; maximum; state, with a status; end, stated length and
-// deadline, each with its flag; stored octets; held marks; data lengths.
+// deadline, each with its flag; stored octets; last reading; held marks; data lengths.
 pub const PEER_KIND: usize = 1;
 
 pub const PEER_WIDTH: usize = 2;
@@ -80,14 +80,22 @@ pub const STORED: usize = 33;
 
 pub const DEADLINE: usize = 41;
 
+pub const LAST_READING: usize = 50;
+
 pub const HELD: usize = 58;
 
 pub const LENGTHS: usize = 90;
 
 pub const RECEIVER_OCTETS: usize = 3930;
 
-// The state that has a status.
+// The state after a hand-over, and those that take no segments, of which FAILED has a status.
+pub const COMPLETE: u8 = 2;
+
 pub const FAILED: u8 = 3;
+
+pub const EXPIRED: u8 = 4;
+
+pub const CANCELED: u8 = 5;
 
 // The octet at a place; 0 past the end.
 pub fn octet(s: &[u8], at: usize) -> u8

@@ -29,10 +29,10 @@ use Rattle.receiver.specs.declared.Terms.{Terms as ReceiverTerms}
 use Rattle.receiver.specs.Record.{late, due}
 use Rattle.receiver.specs.Answers.{Answer, refused, answered}
 use Rattle.receiver.specs.Receive.{Arrival, Outcome, fails, repeats, closes, keeps, finishes, receiveRows, slotRules, settle, lateOr, receiveAfter, receiveOf}
-use Rattle.receiver.specs.Advance.{tryNewRows, madeAfter, tryNewOf, clockRows, fires, advanceAfter, advanceOf, cancelRows, cancelAfter, cancelOf}
+use Rattle.receiver.specs.Advance.{tryNewRows, madeAfter, tryNewOf, clockRows, fires, advanceAfter, advanceOf, cancelRows, cancelAfter, cancelOf, releaseRows, releaseOf}
 use Rattle.train_c.specs.Walk.{Train, train, stops, after, arrivalOf, decodedStep, trainStep, trainOf}
 use Rattle.receiver_answers.specs.Answers.{answerCode}
-use Rattle.two_calls.proofs.Passing.{both, either-left, first-passes, passes, refusal-passes, and-left, other, otherRefusal, fine}
+use Rattle.two_calls.proofs.Passing.{both, either-left, first-passes, allPass, passes, refusal-passes, and-left, other, otherRefusal, fine}
 
 or-else-passes : {A : Type 0} (g : A → Bool) (a b : Option A) → passes g a ≡ true → passes g b ≡ true → passes g (orElse a b) ≡ true
 or-else-passes g none b p q = q
@@ -138,13 +138,21 @@ module _ (r : Receiver) (store : List ℕ) (reading : ℕ) where
       go none e = fires-fine (due (r .progress .«deadline_monotonic_ms») reading) (prohibited (r .progress .services .«acknowledgment_window»))
       go (some x) e = e
 
-  pub cancel-fine : fineAnswer (cancelOf r store reading .answer) ≡ true
-  unfolding cancelOf
-  cancel-fine = go (refusal (cancelRows r store reading)) (refusal-passes fine (cancelRows r store reading) refl)
+  -- cancel and release answer alike behind their rows
+  closing-fine : (rows : List (Bool × Refusal)) → allPass fine rows ≡ true → fineAnswer (cancelAfter (refusal rows) r store reading .answer) ≡ true
+  closing-fine rows e = go (refusal rows) (refusal-passes fine rows e)
     where
       go : (o : Option Refusal) → passes fine o ≡ true → fineAnswer (cancelAfter o r store reading .answer) ≡ true
-      go none e = refl
-      go (some x) e = e
+      go none p = refl
+      go (some x) p = p
+
+  pub cancel-fine : fineAnswer (cancelOf r store reading .answer) ≡ true
+  unfolding cancelOf
+  cancel-fine = closing-fine (cancelRows r store reading) refl
+
+  pub release-fine : fineAnswer (releaseOf r store reading .answer) ≡ true
+  unfolding releaseOf
+  release-fine = closing-fine (releaseRows r store reading) refl
 
 -- ---- a train
 

@@ -10,18 +10,18 @@ use Rattle.receiver.specs.declared.Receiver.{Receiver}
 use Rattle.receiver.specs.declared.Terms.{Terms}
 use Rattle.receiver.specs.Answers.{Answer, Step}
 use Rattle.receiver.specs.Receive.{Arrival, receiveOf}
-use Rattle.receiver.specs.Advance.{Made, tryNewOf, advanceOf, cancelOf}
+use Rattle.receiver.specs.Advance.{Made, tryNewOf, advanceOf, cancelOf, releaseOf}
 use Rattle.image.specs.Segments.{segmentOf, segmentOk}
 use Rattle.image.specs.Cases.{protocolOf}
 use Rattle.codec_c.specs.Codes.{unlessRefused}
 use Rattle.receiver_image.specs.Images.{recordOf, imageOk}
 use Rattle.receiver_answers.specs.Answers.{replyOctets, receptionOctets, noOctets}
-use Rattle.receiver_c.specs.Calls.{Call, spelledBy, call, stepCall, receiveTests, receiveCall, advanceTests, advanceCall, cancelTests, cancelCall, newTests, madeCall, newGives, newCall}
+use Rattle.receiver_c.specs.Calls.{Call, spelledBy, call, stepCall, receiveTests, receiveCall, advanceTests, advanceCall, closingTests, closingCall, cancelCall, releaseCall, newTests, madeCall, newGives, newCall}
 use Rattle.train_c.specs.Walk.{segmentsOf, startOf}
 use Rattle.train_c.specs.Calls as train
-use Rattle.two_calls.specs.TwoCalls.{NeverMisspelled, ReceiverMade, receiver-new, ReceiverCall, receive, advance, cancel, walk}
+use Rattle.two_calls.specs.TwoCalls.{NeverMisspelled, ReceiverMade, receiver-new, ReceiverCall, receive, advance, cancel, release, walk}
 use Rattle.two_calls.proofs.Passing.{both, twice, not-false-is, isSome, cond-some, allPass, refusal-passes, passes, otherRefusal, own, notDone, fine, fine-not-done, call-done}
-use Rattle.two_calls.proofs.Numbers.{fineAnswer, answer-other, receiver-new-fine, receive-fine, advance-fine, cancel-fine, train-other}
+use Rattle.two_calls.proofs.Numbers.{fineAnswer, answer-other, receiver-new-fine, receive-fine, advance-fine, cancel-fine, release-fine, train-other}
 use Rattle.two_calls.proofs.Behaving.{Making, Behaves, never-misspelled, unchanged-by, by-contract}
 
 spelled-some : (image : List ℕ) → isSome (spelledBy image) ≡ imageOk image
@@ -124,15 +124,28 @@ advance-behaves others image n image′ store reading answer store′ answer′ 
     (λ o p. both _ _ (twice p) refl)
     (advance-fine (recordOf image) store reading)
 
+-- cancel and release, by the step that they make
+closing-behaves : (step : Receiver → List ℕ → ℕ → Step) (others : Bool) (image : List ℕ) (n : ℕ) (image′ store : List ℕ) (reading : ℕ) (store′ : List ℕ)
+    → call n image′ store′ [] [] ≡ closingCall step image store reading → fineAnswer (step (recordOf image) store reading .answer) ≡ true
+    → Behaves imageOk others image n image′
+closing-behaves step others image n image′ store reading store′ e f =
+    let tests : List (Bool × Refusal) = closingTests image in
+    step-behaves others noOctets image store [] [] (step (recordOf image) store reading) tests n image′ store′ [] [] e refl
+    (λ h. not-false-is (imageOk image) (refusal-none tests h 1))
+    (λ o p. both _ _ (twice p) refl)
+    f
+
 cancel-behaves : (others : Bool) (image : List ℕ) (n : ℕ) (image′ store : List ℕ) (reading : ℕ) (store′ : List ℕ)
     → call n image′ store′ [] [] ≡ cancelCall image store reading → Behaves imageOk others image n image′
 unfolding cancelCall
 cancel-behaves others image n image′ store reading store′ e =
-    let tests : List (Bool × Refusal) = cancelTests image in
-    step-behaves others noOctets image store [] [] (cancelOf (recordOf image) store reading) tests n image′ store′ [] [] e refl
-    (λ h. not-false-is (imageOk image) (refusal-none tests h 1))
-    (λ o p. both _ _ (twice p) refl)
-    (cancel-fine (recordOf image) store reading)
+    closing-behaves cancelOf others image n image′ store reading store′ e (cancel-fine (recordOf image) store reading)
+
+release-behaves : (others : Bool) (image : List ℕ) (n : ℕ) (image′ store : List ℕ) (reading : ℕ) (store′ : List ℕ)
+    → call n image′ store′ [] [] ≡ releaseCall image store reading → Behaves imageOk others image n image′
+unfolding releaseCall
+release-behaves others image n image′ store reading store′ e =
+    closing-behaves releaseOf others image n image′ store reading store′ e (release-fine (recordOf image) store reading)
 
 -- ---- catkhize_receiver_train
 
@@ -156,6 +169,7 @@ behaves others before n after (receive store output kind width value protocol oc
     receive-behaves others before n after store output kind width value protocol octet segment octets unparsed reading answer store′ output′ answer′ q e
 behaves others before n after (advance store reading answer store′ answer′ e) = advance-behaves others before n after store reading answer store′ answer′ e
 behaves others before n after (cancel store reading store′ e) = cancel-behaves others before n after store reading store′ e
+behaves others before n after (release store reading store′ e) = release-behaves others before n after store reading store′ e
 behaves others before n after (walk a store′ output′ answer′ p m) =
     subst (λ (l : List ℕ). Behaves imageOk others l n after) p (train-behaves others a n after store′ output′ answer′ m)
 

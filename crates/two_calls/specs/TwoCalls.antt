@@ -61,7 +61,7 @@ pub data ReceiverMade (before : List ℕ) (n : ℕ) (image : List ℕ) : Type 0 
       → receiver.call n image [] [] [] ≡ receiver.newCall before kind width value protocol octet transaction version maximum reading
       → ReceiverMade before n image
 
--- catkhize_receiver_receive, _advance, _cancel and _train; a receive reads a segment too
+-- catkhize_receiver_receive, _advance, _cancel, _release and _train; a receive reads a segment too
 pub data ReceiverCall (others : Bool) (before : List ℕ) (n : ℕ) (after : List ℕ) : Type 0 where
   receive : (store output : List ℕ) (kind width value protocol octet : ℕ) (segment octets : List ℕ) (unparsed reading : ℕ) (answer store′ output′ answer′ : List ℕ)
       → segmentOk segment ≡ others
@@ -71,6 +71,7 @@ pub data ReceiverCall (others : Bool) (before : List ℕ) (n : ℕ) (after : Lis
   advance : (store : List ℕ) (reading : ℕ) (answer store′ answer′ : List ℕ)
       → receiver.call n after store′ [] answer′ ≡ receiver.advanceCall before store reading answer → ReceiverCall others before n after
   cancel : (store : List ℕ) (reading : ℕ) (store′ : List ℕ) → receiver.call n after store′ [] [] ≡ receiver.cancelCall before store reading → ReceiverCall others before n after
+  release : (store : List ℕ) (reading : ℕ) (store′ : List ℕ) → receiver.call n after store′ [] [] ≡ receiver.releaseCall before store reading → ReceiverCall others before n after
   walk : (a : train.Asked) (store′ output′ answer′ : List ℕ) → a .image ≡ before → train.Met a (train.call n after store′ output′ answer′) → ReceiverCall others before n after
 
 -- ---- a sender's record

@@ -1,6 +1,6 @@
 //! A call in words, for who reads a disagreement.
 
-use crate::receiver::TRAIN;
+use crate::receiver::{RELEASE, TRAIN};
 use crate::watch::{Case, FIRST_PROBE};
 use record::fields::{take_head, take_peer, take_protocol};
 use record::octets::Take;
@@ -161,6 +161,17 @@ pub fn describe(case: &Case) -> String {
                 reply.support,
                 reply.unparsed,
                 reply.reading
+            )
+        }
+        RELEASE => {
+            let [reading, change, lengths] = [take.take64(), take.take64(), take.take64()];
+            let behind = Case {
+                op: take.take8(),
+                input: take.rest().to_vec(),
+            };
+            format!(
+                "release: reading {reading}, change {change:x}, lengths {lengths}; once more {}",
+                describe(&behind)
             )
         }
         FIRST_PROBE.. => {

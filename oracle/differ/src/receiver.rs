@@ -1,4 +1,9 @@
-//! Receivers: try_new, receive, advance, cancel and trains, with every octet of record, store and output.
+//! Receivers: try_new, receive, advance, cancel and trains, with every octet of record, store and output; and release, which the original
+//! has not.
+
+mod release;
+
+pub use release::RELEASE;
 
 use crate::made_up;
 use crate::spell::{self, FILLING, Terms, filled};
@@ -744,6 +749,7 @@ impl Receivers {
         match case.op {
             SHORT => port.short(numbers.0, &inner, table.area(name)),
             DAMAGED => port.damaged(numbers, &inner, table, name),
+            RELEASE => port.release(numbers, &inner, table),
             _ => port.buffers((numbers.0, numbers.1), &inner, table.area(name)),
         }
     }
@@ -754,17 +760,22 @@ const PROBES: usize = 5;
 /// Where a record has what 62 asks about, up to the slots.
 const RECORD_FRONT: usize = 602;
 
+/// A place in a record, most often before the slots.
+fn any_place(random: &mut Random) -> usize {
+    match random.below(4) {
+        0 => random.below(layout::RECEIVER),
+        1 => random.below(RECORD_FRONT),
+        _ => random.below(90),
+    }
+}
+
 fn any_probe(random: &mut Random, next: Option<&Case>) -> Option<Case> {
     let next = next?;
     if !random.once_in(PROBES) {
         return None;
     }
     let op = random.pick(&[SHORT, DAMAGED, DAMAGED, BUFFERS]);
-    let at = match random.below(4) {
-        0 => random.below(layout::RECEIVER),
-        1 => random.below(RECORD_FRONT),
-        _ => random.below(90),
-    };
+    let at = any_place(random);
     let change = match random.below(3) {
         0 => random.below(4) as u64,
         _ => random.next() & 0xffff,
@@ -816,6 +827,11 @@ impl Checker for Receivers {
     fn any_probe(&self, random: &mut Random, next: Option<&Case>) -> Option<Case> {
         self.port.as_ref().and_then(|_| any_probe(random, next))
     }
+
+    fn any_other(&self, random: &mut Random, last: &Case) -> Option<Case> {
+        let port = self.port.as_ref()?;
+        release::any(random, &port.record, last)
+    }
 }
 
 /// The same over receivers that take trains.
@@ -850,5 +866,9 @@ impl Checker for TrainChecker {
 
     fn any_probe(&self, random: &mut Random, next: Option<&Case>) -> Option<Case> {
         self.0.port.as_ref().and_then(|_| any_probe(random, next))
+    }
+
+    fn any_other(&self, random: &mut Random, last: &Case) -> Option<Case> {
+        self.0.any_other(random, last)
     }
 }

@@ -1,6 +1,6 @@
 //! Makes a list of calls on which the two sides disagree smaller: fewer calls, shorter data, lower numbers.
 
-use crate::receiver::TRAIN;
+use crate::receiver::{RELEASE, TRAIN};
 use crate::watch::{Case, Checker, Disagreement, FIRST_PROBE, replay};
 use std::panic;
 
@@ -307,7 +307,7 @@ fn readings(op: u8) -> Vec<usize> {
         0x20 => vec![22],
         TRAIN => vec![12],
         0x21 => vec![35],
-        0x22 | 0x23 | 0x31 | 0x37 => vec![0],
+        0x22 | 0x23 | 0x31 | 0x37 | RELEASE => vec![0],
         0x30 => vec![29],
         0x32 => vec![9, 17],
         0x33 => vec![9],

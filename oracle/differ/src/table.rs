@@ -72,7 +72,7 @@ fn refusal_name(number: u32) -> String {
 
 /// The refusals that a run has to see, by area. 24, 40, 41, 60 to 63 and 256 to 258 lie outside document 01's domain, as no list of calls on
 /// right buffers gives them; the run reaches them with damaged plans, records and buffers.
-const REFUSALS: [(&str, &str); 6] = [
+const REFUSALS: [(&str, &str); 8] = [
     ("codec", "1 2 3 4 5 6/1 6/2 6/3 6/4 6/5 7 8 61 256 257"),
     ("planner", "1 6/1 20 21 22 256 257 258"),
     ("frozen check", "1 6/1 6/2 6/3 6/4 6/5 20 22 23 24 256 257"),
@@ -80,6 +80,8 @@ const REFUSALS: [(&str, &str); 6] = [
         "receiver",
         "1 6/1 6/2 6/3 6/4 6/5 30 31 32 33 34 35 36 37 38 60 61 62 256 257 258",
     ),
+    ("release", "33 38 60 62 256 257"),
+    ("receivers released", "33 38"),
     (
         "train",
         "2 3 4 5 6/3 7 8 30 31 32 33 34 35 36 37 38 60 61 62 256 257 258",
@@ -95,7 +97,7 @@ fn letter(area: &str) -> char {
     match area {
         "codec" => 'c',
         "planner" | "frozen check" => 'p',
-        "receiver" => 'r',
+        "receiver" | "release" | "receivers released" => 'r',
         "train" => 't',
         _ => 's',
     }
@@ -150,6 +152,13 @@ pub const NONE_MISSING: &str = "maps with none missing";
 pub const BEGIN_MISSING: &str = "maps with 0 the first missing";
 pub const LONG_STORE: &str = "calls on A5 stores with octets past 65,280";
 pub const WIPED: &str = "stores wiped";
+pub const RELEASED: &str = "complete receivers released";
+pub const FULL_RELEASED: &str = "receivers of 65,280 octets released";
+pub const LONG_RELEASED: &str = "releases of stores with octets past 65,280";
+pub const LAST_RELEASED: &str = "releases at 2^64 - 1";
+pub const SHORT_AND_IMPOSSIBLE: &str = "60 and 62 both due";
+pub const IMPOSSIBLE_AND_CLOCK: &str = "62 and 33 both due";
+pub const CLOCK_AND_CLOSED: &str = "33 and 38 both due";
 pub const FROZEN_SENDER: &str = "senders of frozen plans";
 pub const FULL_SENDER: &str = "senders of 256 segments";
 pub const PAST_MESSAGE: &str = "segments of made-up plans that would begin past the message";
@@ -164,7 +173,7 @@ pub const WORD_EDGES: [(usize, &str); 6] = [
     (192, "maps with 192 the first missing"),
 ];
 
-const INPUTS: [(&str, &str); 20] = [
+const INPUTS: [(&str, &str); 27] = [
     ("planner", PAST_MESSAGE),
     ("receiver", FULL_TRAIN),
     ("receiver", LATE_RECEPTION),
@@ -174,6 +183,13 @@ const INPUTS: [(&str, &str); 20] = [
     ("receiver", BEGIN_MISSING),
     ("receiver", LONG_STORE),
     ("receiver", WIPED),
+    ("release", RELEASED),
+    ("release", FULL_RELEASED),
+    ("release", LONG_RELEASED),
+    ("release", LAST_RELEASED),
+    ("release", SHORT_AND_IMPOSSIBLE),
+    ("release", IMPOSSIBLE_AND_CLOCK),
+    ("release", CLOCK_AND_CLOSED),
     ("train", FULL_MAP_RECEIVED),
     ("train", WORD_EDGES[0].1),
     ("train", WORD_EDGES[1].1),
@@ -271,8 +287,10 @@ impl Table {
         }
         for [state, status] in RECEIVER_STATES.into_iter().filter(|_| runs("receiver")) {
             let state = [state, status, 0, 0];
-            if !area("receiver").states.contains_key(&state) {
-                missing.push(format!("receiver: state {}", receiver_state_name(state)));
+            for name in ["receiver", "release"] {
+                if !area(name).states.contains_key(&state) {
+                    missing.push(format!("{name}: state {}", receiver_state_name(state)));
+                }
             }
         }
         for state in SENDER_STATES.into_iter().filter(|_| runs("sender")) {

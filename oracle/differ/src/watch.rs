@@ -44,6 +44,11 @@ pub trait Checker: Default + 'static {
 
     /// A probe to make before or after a call, now and then.
     fn any_probe(&self, random: &mut Random, next: Option<&Case>) -> Option<Case>;
+
+    /// A probe with a call that the original has not, to make after a call, now and then.
+    fn any_other(&self, _: &mut Random, _: &Case) -> Option<Case> {
+        None
+    }
 }
 
 /// A list of calls on which the two sides disagree, and how.
@@ -66,6 +71,8 @@ pub type Shared = Rc<RefCell<Sheet>>;
 struct Watch<C> {
     checker: C,
     random: Random,
+    /// Calls that the original has not are chosen apart, so that the probes of a seed stay as they are without them.
+    others: Random,
     list: Vec<Case>,
     sheet: Shared,
 }
@@ -86,19 +93,31 @@ impl<C: Checker> Watch<C> {
     }
 
     fn make_probe(&mut self, original: &mut C::Original, next: Option<&Case>) {
-        if self.stopped() {
-            return;
+        if !self.stopped() {
+            let probe = self.checker.any_probe(&mut self.random, next);
+            self.make(original, probe);
         }
-        if let Some(probe) = self.checker.any_probe(&mut self.random, next) {
-            self.list.push(probe.clone());
-            let sheet = self.sheet.clone();
-            let checked = self
-                .checker
-                .probe(original, &probe, &mut sheet.borrow_mut().table);
-            self.found(checked);
-            if !self.stopped() {
-                self.list.pop();
-            }
+    }
+
+    fn make_other(&mut self, original: &mut C::Original, last: &Case) {
+        if !self.stopped() {
+            let other = self.checker.any_other(&mut self.others, last);
+            self.make(original, other);
+        }
+    }
+
+    fn make(&mut self, original: &mut C::Original, probe: Option<Case>) {
+        let Some(probe) = probe else {
+            return;
+        };
+        self.list.push(probe.clone());
+        let sheet = self.sheet.clone();
+        let checked = self
+            .checker
+            .probe(original, &probe, &mut sheet.borrow_mut().table);
+        self.found(checked);
+        if !self.stopped() {
+            self.list.pop();
         }
     }
 }
@@ -132,6 +151,7 @@ impl<C: Checker> Watcher<C::Original> for Watch<C> {
             .check(original, &case, answer, &mut sheet.borrow_mut().table);
         self.found(checked);
         self.make_probe(original, None);
+        self.make_other(original, &case);
     }
 }
 
@@ -140,6 +160,7 @@ pub fn watch<C: Checker>(sheet: &Shared, seed: u64, make: impl Fn(&mut Recorder<
     let watch = Watch {
         checker: C::default(),
         random: Random::new(seed ^ 0x5eed),
+        others: Random::new(seed ^ 0xc0de),
         list: Vec::new(),
         sheet: sheet.clone(),
     };

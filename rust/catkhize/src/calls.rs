@@ -113,6 +113,13 @@ mod c {
             store_octets: usize,
             reading: u64,
         ) -> u32;
+        pub fn catkhize_receiver_release(
+            record: *mut u8,
+            record_octets: usize,
+            store: *mut u8,
+            store_octets: usize,
+            reading: u64,
+        ) -> u32;
         pub fn catkhize_receiver_train(
             record: *mut u8,
             record_octets: usize,
@@ -428,9 +435,20 @@ pub fn receiver_advance(
     ))
 }
 
-/// Ends an open reception.
+/// Ends an open reception and sets its store to 0.
 pub fn receiver_cancel(record: &mut [u8], store: &mut [u8], reading: u64) -> u32 {
     call!(catkhize_receiver_cancel(
+        record.as_mut_ptr(),
+        record.len(),
+        store.as_mut_ptr(),
+        store.len(),
+        reading,
+    ))
+}
+
+/// Releases a Complete receiver and sets its store to 0.
+pub fn receiver_release(record: &mut [u8], store: &mut [u8], reading: u64) -> u32 {
+    call!(catkhize_receiver_release(
         record.as_mut_ptr(),
         record.len(),
         store.as_mut_ptr(),

@@ -25,7 +25,7 @@ pub enum ReceiverState {
     Failed(Status),
     /// The peer fell silent, where no response may be sent.
     Expired,
-    /// The reception was ended by its owner.
+    /// The reception was canceled, or released once it was complete.
     Canceled,
 }
 
@@ -128,6 +128,9 @@ impl<'a> Train<'a> {
 }
 
 /// The receiver of one transaction, with the store for its segments and the output for its message.
+///
+/// Failure, expiry, [`cancel`](Self::cancel) and [`release`](Self::release) set the store to 0. A hand-over does not: a Complete receiver compares
+/// repeats with what its store holds.
 ///
 /// ```
 /// use catkhize::*;
@@ -352,7 +355,8 @@ impl Receiver {
         Reported::read(&answer).ok_or(Refusal::BUFFER_SPELLS_NONE)
     }
 
-    /// Ends an open reception.
+    /// Ends an open reception, AwaitingBegin or Receiving, and sets the store to 0. In any other state it is refused with [`Refusal::CLOSED`]; a
+    /// Complete one is [released](Self::release).
     ///
     /// ```
     /// use catkhize::*;
@@ -365,6 +369,38 @@ impl Receiver {
     /// ```
     pub fn cancel(&mut self, monotonic_ms: u64) -> Result<(), Refusal> {
         Given::new(calls::receiver_cancel(
+            &mut self.record,
+            &mut self.store,
+            monotonic_ms,
+        ))
+        .done()
+        .map(|_| ())
+    }
+
+    /// Closes a Complete receiver: the store becomes 0, no segment is held any more and the state is [`ReceiverState::Canceled`]. In any other
+    /// state it is refused with [`Refusal::CLOSED`]; an open one is [canceled](Self::cancel). A repeat that comes after it is refused with
+    /// [`Refusal::CLOSED`] and not answered.
+    ///
+    /// ```
+    /// use catkhize::*;
+    /// let peer = MobileIdentity { kind: 0, width: 34, value: 1 };
+    /// let protocol = HigherLayerProtocol::Segmented(0);
+    /// let mut receiver = Receiver::try_new(peer, protocol, 0, 1, 100, 0)?;
+    /// receiver.receive(peer, protocol, &decode_segment(&[0, 0, 1, b'a'], 1)?, 0)?;
+    /// assert_eq!(receiver.release(0), Err(Refusal::CLOSED));
+    /// let end = decode_segment(&[16, 1, 1, b'b'], 1)?;
+    /// assert_eq!(receiver.receive(peer, protocol, &end, 0)?.message, Some(b"ab".as_slice()));
+    /// assert_eq!((receiver.store()[0], receiver.store()[255]), (b'a', b'b'));
+    /// assert_eq!(receiver.cancel(1), Err(Refusal::CLOSED));
+    /// receiver.release(1)?;
+    /// assert_eq!((receiver.state(), receiver.stored_octets()), (ReceiverState::Canceled, 0));
+    /// assert!(receiver.store().iter().all(|octet| *octet == 0));
+    /// assert_eq!(receiver.receive(peer, protocol, &end, 1), Err(Refusal::CLOSED));
+    /// assert_eq!(receiver.release(1), Err(Refusal::CLOSED));
+    /// # Ok::<(), Refusal>(())
+    /// ```
+    pub fn release(&mut self, monotonic_ms: u64) -> Result<(), Refusal> {
+        Given::new(calls::receiver_release(
             &mut self.record,
             &mut self.store,
             monotonic_ms,
@@ -397,6 +433,11 @@ impl Receiver {
     /// The number of octets held.
     pub fn stored_octets(&self) -> u64 {
         Take::at(&self.record, layout::receiver::STORED_OCTETS).take64()
+    }
+
+    /// The store: 255 octets for each of 256 sequence numbers, of which a held segment fills the first.
+    pub fn store(&self) -> &[u8] {
+        &self.store
     }
 
     /// The receiver as the calls take it: a RECEIVER of [`layout`].

@@ -228,6 +228,63 @@ fn receivers_in_time() {
 }
 
 #[test]
+fn receivers_released() {
+    let mut record = receiver(10);
+    let mut store = filled(layout::STORE + 9);
+    let receive = |record: &mut [u8], store: &mut [u8], segment: [u8; 15], data: &[u8], reading| {
+        let mut output = filled(10);
+        let mut answer = filled(layout::RECEPTION);
+        let given = calls::receiver_receive(
+            record,
+            store,
+            &mut output,
+            origin(),
+            &segment,
+            data,
+            0,
+            reading,
+            &mut answer,
+        );
+        (given, untouched(&output) && untouched(&answer))
+    };
+    let begun = receive(&mut record, &mut store, segment(2, 0, 0), b"ab", 100);
+    assert_eq!((begun.0, record[layout::receiver::STATE]), (0, 1));
+    let before = (record.clone(), store.clone());
+    let open = calls::receiver_release(&mut record, &mut store, 100);
+    assert_eq!(refusal(open), Refusal::CLOSED);
+    assert!((&record, &store) == (&before.0, &before.1));
+    let ended = receive(&mut record, &mut store, segment(2, 1, 2), b"c", 100);
+    assert_eq!((ended.0, record[layout::receiver::STATE]), (0, 2));
+    assert!(store.starts_with(b"ab") && store[255] == b'c');
+
+    let before = (record.clone(), store.clone());
+    let short = calls::receiver_release(&mut record, &mut store[..layout::STORE - 1], 100);
+    assert_eq!(refusal(short), Refusal::STORE_TOO_SHORT);
+    let regress = calls::receiver_release(&mut record, &mut store, 99);
+    assert_eq!(refusal(regress), Refusal::CLOCK_REGRESSION);
+    assert!((&record, &store) == (&before.0, &before.1));
+    assert_eq!(calls::receiver_release(&mut record, &mut store, 200), 0);
+    assert_eq!(record[layout::receiver::STATE], 5);
+    assert!(store[..layout::STORE].iter().all(|octet| *octet == 0));
+    assert!(untouched(&store[layout::STORE..]));
+
+    let before = (record.clone(), store.clone());
+    let early = receive(&mut record, &mut store, segment(2, 1, 2), b"c", 199);
+    assert_eq!(refusal(early.0), Refusal::CLOCK_REGRESSION);
+    let repeat = receive(&mut record, &mut store, segment(2, 1, 2), b"c", 200);
+    assert_eq!((refusal(repeat.0), repeat.1), (Refusal::CLOSED, true));
+    let again = calls::receiver_release(&mut record, &mut store, 200);
+    assert_eq!(refusal(again), Refusal::CLOSED);
+    assert!((&record, &store) == (&before.0, &before.1));
+    record[layout::receiver::STORED_OCTETS] = 1;
+    let impossible = calls::receiver_release(&mut record, &mut store, 200);
+    assert_eq!(refusal(impossible), Refusal::IMPOSSIBLE_STATE);
+    record[0] = 2;
+    let none = calls::receiver_release(&mut record, &mut store, 200);
+    assert_eq!(refusal(none), Refusal::BUFFER_SPELLS_NONE);
+}
+
+#[test]
 fn trains() {
     let mut record = receiver(10);
     let mut store = filled(layout::STORE);
@@ -724,6 +781,7 @@ fn empty_buffers() {
         calls::receiver_receive(none, a, b, origin(), &[], &[], 0, 0, c),
         calls::receiver_advance(none, a, 0, b),
         calls::receiver_cancel(none, a, 0),
+        calls::receiver_release(none, a, 0),
         calls::receiver_train(none, a, b, origin(), &[], &[], 0, c),
         calls::sender_new(none, origin(), &[], &[], 0, 0, 0),
         calls::sender_advance(none, 0, a),
@@ -784,6 +842,7 @@ fn odd_arguments() {
     let train = receiver.receive_train(PEER, PROTOCOL, &long, &[65_535; 9], u64::MAX);
     assert_eq!(train.map(|train| train.received), Ok(0));
     assert_eq!(receiver.advance(u64::MAX), Ok(None));
+    assert_eq!(receiver.release(u64::MAX), Err(Refusal::CLOSED));
     assert_eq!(receiver.cancel(u64::MAX), Ok(()));
 }
 

@@ -1,7 +1,7 @@
 //! The exports' own refusals, as docs/EXPORTS.md has them: 256, a buffer is shorter than its layout; 257, its octets spell no value; 258, a
 //! number names no case. They come in this order and before document 01's, and every lent octet stays.
 
-use crate::octets::{begin, difference, filled, window};
+use crate::octets::{begin, difference, end, filled, window};
 use crate::tally::{Group, Tally};
 use catkhize::calls::{self, Origin};
 use catkhize::{AcknowledgmentWindow, layout};
@@ -23,16 +23,18 @@ const HEADS: usize = 1;
 const RESPONSE: usize = 2;
 const PLAN: usize = 3;
 const RECEIVER: usize = 4;
+/// A receiver that has handed its message over.
+const COMPLETE: usize = 5;
 /// A sender that offers its first segment.
-const OFFERING: usize = 5;
+const OFFERING: usize = 6;
 /// A sender whose first segment Layer 3 has.
-const TAKEN: usize = 6;
-const ANSWER: usize = 7;
+const TAKEN: usize = 7;
+const ANSWER: usize = 8;
 
 /// What a call is lent and the numbers that it is given.
 #[derive(Clone)]
 struct Lent {
-    buffers: [Vec<u8>; 8],
+    buffers: [Vec<u8>; 9],
     store: Vec<u8>,
     output: Vec<u8>,
     window: u8,
@@ -60,7 +62,7 @@ struct Entry {
     named: Option<Named>,
 }
 
-const ENTRIES: [Entry; 17] = [
+const ENTRIES: [Entry; 18] = [
     Entry {
         call: |l| {
             let [segment, .., answer] = &mut l.buffers;
@@ -162,9 +164,16 @@ const ENTRIES: [Entry; 17] = [
         named: None,
     },
     Entry {
+        call: |l| calls::receiver_release(&mut l.buffers[COMPLETE], &mut l.store, l.reading),
+        answer: 0,
+        lent: &[COMPLETE],
+        read: &[COMPLETE],
+        named: None,
+    },
+    Entry {
         call: |l| {
             let from = l.origin();
-            let [_, _, _, plan, _, record, ..] = &mut l.buffers;
+            let [_, _, _, plan, _, _, record, ..] = &mut l.buffers;
             calls::sender_new(record, from, plan, MESSAGE, l.version, NUMBER, l.reading)
         },
         answer: 0,
@@ -253,7 +262,7 @@ fn misspellings(buffer: usize) -> &'static [(usize, u8)] {
         HEADS => &[(2, 3), (255 * layout::HEAD + 2, 3)],
         RESPONSE => &[(1, 14), (36, 2), (37, 1)],
         PLAN => &[(0, 0), (0, 2), (1, 2), (19, 6), (44, 2)],
-        RECEIVER => &[(0, 0), (0, 2), (11, 3), (23, 6), (24, 1), (26, 6), (41, 2)],
+        RECEIVER | COMPLETE => &[(0, 0), (0, 2), (11, 3), (23, 6), (24, 1), (26, 6), (41, 2)],
         _ => &[
             (0, 0),
             (0, 2),
@@ -279,6 +288,7 @@ impl Lent {
                 response,
                 filled(layout::PLAN),
                 filled(layout::RECEIVER),
+                filled(layout::RECEIVER),
                 filled(layout::SENDER),
                 filled(layout::SENDER),
                 filled(layout::RECEPTION),
@@ -299,7 +309,17 @@ impl Lent {
     /// Makes plan, heads and machines by calls.
     fn make(&mut self) {
         let (from, window, version) = (self.origin(), self.window, self.version);
-        let [_, heads, _, plan, receiver, offering, taken, _] = &mut self.buffers;
+        let [
+            segment,
+            heads,
+            _,
+            plan,
+            receiver,
+            complete,
+            offering,
+            taken,
+            _,
+        ] = &mut self.buffers;
         let planned =
             calls::plan_message(MESSAGE, BUDGET, TRANSACTION, window, version, BUDGET, plan);
         let heads = heads.chunks_mut(layout::HEAD);
@@ -311,11 +331,29 @@ impl Lent {
         });
         let parts: u32 = parts.sum();
         let new = calls::receiver_new(receiver, from, TRANSACTION, version, 100, READING);
+        complete.copy_from_slice(receiver);
+        let last = end(TRANSACTION, 1, None, None);
+        let received = [&segment[..], &last].map(|segment| {
+            let (store, output) = (&mut filled(layout::STORE), &mut filled(layout::STORE));
+            let answer = &mut filled(layout::RECEPTION);
+            calls::receiver_receive(
+                complete,
+                store,
+                output,
+                from,
+                segment,
+                &[],
+                0,
+                READING,
+                answer,
+            )
+        });
         let made = calls::sender_new(offering, from, plan, MESSAGE, version, NUMBER, READING);
         taken.copy_from_slice(offering);
         let mut state = filled(layout::STATE);
         let sent = calls::sender_submitted(taken, NUMBER, 0, READING, READING, &mut state);
-        assert_eq!([planned, parts, new, made, sent], [0; 5]);
+        let received: u32 = received.iter().sum();
+        assert_eq!([planned, parts, new, received, made, sent], [0; 6]);
     }
 
     fn origin(&self) -> Origin {

@@ -8,6 +8,7 @@ mod marked;
 mod one_call;
 mod record;
 mod refusals;
+mod release;
 mod repeats;
 mod rows;
 mod slots;
@@ -28,5 +29,6 @@ pub fn corners(tally: &mut Tally) {
     windows::corners(tally);
     figures::corners(tally);
     trains::corners(tally);
+    release::corners(tally);
     one_call::corners(tally);
 }

@@ -29,10 +29,12 @@ same-length-2 c = search needs
 
 returns : tie.Need-returns
 returns c =
-    let x = c .before .before .before .before .before .before .before .before .before .before .before .before in
+    let put = c .before .before .before in
+    let called = put .before .before .before .before .before in
+    let x = called .before .before .before .before in
     let image = now (x .args .«record») in
-    let g = c .before .before .before .before .before .before .before .before .cancel in
-    let p = c .before .before .before .put-receiver .ensures in
+    let g = called .cancel in
+    let p = put .put-receiver .ensures in
     let s : Step = canceled (g .result) (g .last .1 .1 .0) in
     steps noOctets image [] s _ _ [] (x .pre) (p .1) (c .cancel-code .ensures) (p .0) refl ∙ ap (stepCall noOctets image []) (g .ensures)
 

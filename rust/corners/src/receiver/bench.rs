@@ -2,7 +2,9 @@
 //! the whole record and every lent octet are compared with what has to come of it.
 
 use super::record::{Record, State, noted};
-use super::rows::{Call, Kind, Map, OWN, Outcome, Row, STORE, TRANSACTION, advance, cancel, later};
+use super::rows::{
+    Call, Kind, Map, OWN, Outcome, Row, STORE, TRANSACTION, advance, cancel, later, release,
+};
 use crate::octets::{FILL, PAST, at_front, difference, filled, flagged, pattern, refusal};
 use crate::tally::Group;
 use catkhize::{calls, layout};
@@ -66,6 +68,7 @@ impl Lent {
         match call.kind {
             Kind::Advance => calls::receiver_advance(record, store, call.reading, answer),
             Kind::Cancel => calls::receiver_cancel(record, store, call.reading),
+            Kind::Release => calls::receiver_release(record, store, call.reading),
             _ => calls::receiver_receive(
                 record,
                 store,
@@ -120,10 +123,10 @@ pub fn reported(outcome: Outcome, state: State, map: Map) -> Reported {
         .expect("the octets of a RESPONSE and two figures")
 }
 
-/// RECEPTION of a receive, REPLY of an advance; a cancel has no answer.
+/// RECEPTION of a receive, REPLY of an advance; a cancel and a release have no answer.
 pub fn answer(kind: Kind, reported: Option<Reported>, message: Option<u64>) -> Vec<u8> {
     match kind {
-        Kind::Cancel => Vec::new(),
+        Kind::Cancel | Kind::Release => Vec::new(),
         Kind::Advance => flagged(reported),
         _ => [flagged(reported), flagged(message.map(u64::to_be_bytes))].concat(),
     }
@@ -179,7 +182,11 @@ impl Bench<'_> {
                 let at = SLOT * usize::from(call.sequence);
                 lent.store[at..at + data.len()].copy_from_slice(data);
             }
-            Outcome::Fails(_) | Outcome::Expires | Outcome::Lapses | Outcome::Cancels => {
+            Outcome::Fails(_)
+            | Outcome::Expires
+            | Outcome::Lapses
+            | Outcome::Cancels
+            | Outcome::Releases => {
                 lent.store[..layout::STORE].fill(0);
             }
             _ => {}
@@ -214,6 +221,15 @@ impl Bench<'_> {
                 edit(&mut self.record);
                 self.lent.record = at_front(&self.record.octets(), self.lent.record.len());
             }
+            Row::Refill => self.lent.store.fill(FILL),
+            Row::Left(edit) => {
+                let (version, maximum) = (self.record.version, self.record.maximum);
+                let mut left = Record::new(OWN, TRANSACTION, version, maximum, 0);
+                edit(&mut left);
+                let wanted = at_front(&left.octets(), self.lent.record.len());
+                self.group
+                    .case(difference(&self.lent.record, &wanted), None);
+            }
             Row::Keeps(end, services, length) => {
                 let wanted = noted(services.unwrap_or_default(), end, length);
                 let given = self.lent.record[NOTED].to_vec();
@@ -224,6 +240,7 @@ impl Bench<'_> {
                 self.step(later(1, 1, 5_000).refused(62));
                 self.step(advance(5_000).refused(62));
                 self.step(cancel(5_000).refused(62));
+                self.step(release(5_000).refused(62));
             }
             Row::Call(call, outcome, map) => self.call(call, outcome, map),
         }

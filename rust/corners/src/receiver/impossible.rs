@@ -1,4 +1,4 @@
-//! 62: records that no list of calls leaves, each wrong in one point, and records like them that are possible. Each of the three calls is
+//! 62: records that no list of calls leaves, each wrong in one point, and records like them that are possible. Each of the four calls is
 //! refused and changes nothing.
 
 use super::bench::run;

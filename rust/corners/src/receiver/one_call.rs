@@ -166,6 +166,21 @@ impl<'a> Bench<'a> {
             train.reading,
             &mut self.lent.answer[..train.answer],
         );
+        self.case(given, number, wanted);
+    }
+
+    /// The receiver, which is complete, is released.
+    fn releases(&mut self, reading: u64) {
+        let mut wanted = self.lent.clone();
+        self.record.leave(&release(reading), Outcome::Releases);
+        wanted.record = at_front(&self.record.octets(), wanted.record.len());
+        wanted.store[..layout::STORE].fill(0);
+        let Lent { record, store, .. } = &mut self.lent;
+        let given = calls::receiver_release(record, store, reading);
+        self.case(given, 0, wanted);
+    }
+
+    fn case(&mut self, given: u32, number: u32, wanted: Lent) {
         let differences = self.lent.differences(&wanted);
         let none = <[Option<String>; 4]>::default();
         self.group.case((given, differences), (number, none));
@@ -344,6 +359,30 @@ fn late(g: &mut Group) {
     b.gives(train(&segments).at(AT + 1), refusal(38, 0), 1, &rows, "");
 }
 
+/// A train to a released receiver gets 38 at its first segment, a repeat of what was received or not, and no reading is taken; a segment that
+/// decoding or an earlier test refuses gets that.
+fn released(g: &mut Group) {
+    let mut b = Bench::new(g, 5);
+    let rows = [begin(PLAIN, 1, AT).holds(), end(1, 1, AT).hands_over()];
+    b.gives(train(&[BEGIN, END_1]), 0, 2, &rows, "61 62");
+    b.releases(AT + 1);
+    for (segments, reading, n, m) in [
+        (&[BEGIN, END_1][..], AT + 1, 38, 0),
+        (&[END_1, BEGIN], AT + 9, 38, 0),
+        (&["15 01 01 63"], AT + 9, 38, 0),
+        (&["0d 02 01 63", END_1], AT + 9, 38, 0),
+        (&[BEGIN_LAST, END_1], AT + 1, 38, 0),
+        (&[BEGIN, END_1], AT, 33, 0),
+        (&["45 01 01 62", BEGIN], AT + 1, 3, 0),
+        (&["05 01 00", BEGIN], AT + 1, 6, 3),
+        (&["0e 01 01 62", BEGIN], AT + 1, 32, 0),
+        (&["0d 01 01 62 ff", BEGIN], AT + 1, 35, 0),
+    ] {
+        b.gives(train(segments).at(reading), refusal(n, m), 0, &[], "");
+    }
+    b.gives(train(&[]).at(AT + 1), 0, 0, &[], "");
+}
+
 /// Lengths past the octets, short of a segment, none and odd.
 fn lengths(g: &mut Group) {
     let first = [begin(PLAIN, 1, AT).holds()];
@@ -422,6 +461,7 @@ pub fn corners(tally: &mut Tally) {
     tally.group("train: behind a failure", failures);
     tally.group("train: at a refusal", refusals);
     tally.group("train: refusals that change the record", late);
+    tally.group("train: to a released receiver", released);
     tally.group("train: lengths", lengths);
     tally.group("train: buffers", buffers);
 }

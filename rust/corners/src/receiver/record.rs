@@ -129,7 +129,7 @@ impl Record {
                 self.close(Failed(status));
             }
             Outcome::Expires | Outcome::Lapses => self.close(Expired),
-            Outcome::Cancels => self.close(Canceled),
+            Outcome::Cancels | Outcome::Releases => self.close(Canceled),
             Outcome::Asks => self.deadline = None,
             Outcome::Closes | Outcome::Waits | Outcome::Refused(..) => {}
         }

@@ -11,10 +11,8 @@ use catkhize::calls::Origin;
 const GOOD: Call = begin(PLAIN, 0, 6_000);
 
 /// Other peers and protocols.
-const OTHER_KIND: Origin = Origin { kind: 2, ..OWN };
 const OTHER_WIDTH: Origin = Origin { width: 35, ..OWN };
 const OTHER_VALUE: Origin = Origin { value: 7, ..OWN };
-const OTHER_OCTET: Origin = Origin { octet: 4, ..OWN };
 const CARRIER: Origin = Origin { protocol: 1, ..OWN };
 const OTHER_CASE: Origin = Origin { protocol: 2, ..OWN };
 const OTHER_BOTH: Origin = Origin {

@@ -16,6 +16,10 @@ pub const OWN: Origin = Origin {
 };
 pub const TRANSACTION: u8 = 5;
 
+/// Another peer, and another protocol.
+pub const OTHER_KIND: Origin = Origin { kind: 2, ..OWN };
+pub const OTHER_OCTET: Origin = Origin { octet: 4, ..OWN };
+
 /// The store is longer than all slots by some octets, which have to stay.
 pub const STORE: usize = layout::STORE + octets::PAST;
 
@@ -56,11 +60,15 @@ pub enum Row {
     Again(u8),
     /// The record is set by hand.
     Make(fn(&mut Record)),
+    /// Every octet of the store is A5 again.
+    Refill,
+    /// The record that was compared last has to be a new receiver's of the same version and maximum with these fields set by hand.
+    Left(fn(&mut Record)),
     /// This end, these services and this stated length have to stand in the record.
     Keeps(Option<u8>, Services, Option<u16>),
     /// These octets have to stand where the last answer has the figures of a response's map.
     Figures([u8; 4]),
-    /// Each of receive, advance and cancel has to give 62.
+    /// Each of receive, advance, cancel and release has to give 62.
     Wrong,
     /// A call, its outcome, and the map of the response where there is one.
     Call(Call, Outcome, Option<Map>),
@@ -73,6 +81,7 @@ pub enum Kind {
     End(Option<MessageCrc>),
     Advance,
     Cancel,
+    Release,
 }
 
 /// A call: what it brings, and how many octets of the store and of the output it is lent.
@@ -114,6 +123,8 @@ pub enum Outcome {
     Lapses,
     /// The reception is canceled.
     Cancels,
+    /// The receiver is released.
+    Releases,
     /// Refusal n/m, and nothing changes.
     Refused(u8, u8),
 }
@@ -163,6 +174,10 @@ pub const fn advance(reading: u64) -> Call {
 
 pub const fn cancel(reading: u64) -> Call {
     call(Kind::Cancel, 0, 0, reading)
+}
+
+pub const fn release(reading: u64) -> Call {
+    call(Kind::Release, 0, 0, reading)
 }
 
 /// What else a call brings or is lent.
@@ -259,6 +274,10 @@ impl Call {
 
     pub const fn cancels(self) -> Row {
         Row::Call(self, Outcome::Cancels, None)
+    }
+
+    pub const fn releases(self) -> Row {
+        Row::Call(self, Outcome::Releases, None)
     }
 
     pub const fn refused(self, n: u8) -> Row {
