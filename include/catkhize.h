@@ -63,7 +63,7 @@ extern "C" {
 #define CATKHIZE_REFUSED_FIELD_SUPPORT_STATUS CATKHIZE_REFUSAL(6, 7)
 #define CATKHIZE_REFUSED_RESERVED CATKHIZE_REFUSAL(7, 0)
 #define CATKHIZE_REFUSED_DUPLICATE_PARAMETER CATKHIZE_REFUSAL(8, 0)
-/* The planner's and the frozen check's. */
+/* The planners' and the frozen check's. */
 #define CATKHIZE_REFUSED_PAYLOAD_BUDGET CATKHIZE_REFUSAL(20, 0)
 #define CATKHIZE_REFUSED_HEADER_CAPACITY CATKHIZE_REFUSAL(21, 0)
 #define CATKHIZE_REFUSED_SEGMENT_COUNT CATKHIZE_REFUSAL(22, 0)
@@ -266,8 +266,13 @@ extern "C" {
 #define CATKHIZE_RECEIVER_EXPIRED 4u
 #define CATKHIZE_RECEIVER_CANCELED 5u
 
-/* PLAN. Planned: capacities from which every segment follows; the frozen part of a plan that plan_message
- * makes is 0, and catkhize_sender_new refuses another with 40. Frozen: heads; the planned part is 0. */
+/* PLAN. Planned: by either planner, capacities from which every segment follows. LATER_CAPACITY is the
+ * number of data octets of a later segment, of the last one as far as the message goes. Where the capacities
+ * leave octets over (message octets less Begin's less (count - 1) * LATER_CAPACITY), so many later
+ * segments, the first ones, have one octet more; catkhize_plan_message leaves none over. A plan with octets
+ * left over, and a SENDER made of one, are not for a library before 2026-02, which gives no octet more. The
+ * frozen part of a plan that a planner makes is 0, and catkhize_sender_new refuses another with 40. Frozen:
+ * heads; the planned part is 0. */
 #define CATKHIZE_PLAN_AT_FORM 1u
 #define CATKHIZE_PLAN_AT_MESSAGE_OCTETS 2u /* planned; 64 bits, as all below but where said */
 #define CATKHIZE_PLAN_AT_BUDGET 10u
@@ -422,6 +427,20 @@ uint32_t catkhize_decode(
 /* Cuts a message into segments of at most budget octets. CATKHIZE_NOTHING: it fits whole and needs no
  * segments; the plan buffer is then as it was, as after a refusal. */
 uint32_t catkhize_plan_message(
+    const uint8_t *message, size_t message_octets,
+    uint64_t budget,
+    uint8_t transaction,
+    uint8_t window,
+    uint8_t version,
+    uint64_t ceiling,
+    uint8_t *plan, size_t plan_octets); /* PLAN */
+
+/* The same with later segments of even length. The Begin and the number of segments are those that
+ * catkhize_plan_message gives; the octets behind the Begin's are spread over the later segments, the End
+ * among them, so that no two of these differ by more than an octet, the longer ones first. For modems that
+ * drop a very short End: 8 octets, budget 6, Prohibited are 1, 3, 2, 2 here and 1, 3, 3, 1 there. It sets no
+ * least length. It gives CATKHIZE_NOTHING and every refusal exactly where catkhize_plan_message does. */
+uint32_t catkhize_plan_even(
     const uint8_t *message, size_t message_octets,
     uint64_t budget,
     uint8_t transaction,

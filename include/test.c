@@ -155,10 +155,25 @@ static void test_decode(void) {
     CHECK(untouched(answer, sizeof answer));
 }
 
+/* The plan's segments have these lengths and offsets, and there are no others. The answer is that of the last. */
+static void cuts(uint8_t count, const uint64_t *lengths, const uint64_t *offsets) {
+    uint8_t i;
+    CHECK(catkhize_get64(plan + CATKHIZE_PLAN_AT_COUNT) == count);
+    fill(answer, sizeof answer);
+    CHECK(catkhize_plan_segment(plan, sizeof plan, count, answer, CATKHIZE_PART_OCTETS) == CATKHIZE_NOTHING);
+    CHECK(untouched(answer, sizeof answer));
+    for (i = 0; i < count; i++) {
+        fill(answer, sizeof answer);
+        CHECK(catkhize_plan_segment(plan, sizeof plan, i, answer, CATKHIZE_PART_OCTETS) == CATKHIZE_DONE);
+        CHECK(answer[CATKHIZE_SEGMENT_AT_SEQUENCE] == i);
+        CHECK(catkhize_get64(answer + CATKHIZE_HEAD_AT_DATA_LENGTH) == lengths[i]);
+        CHECK(catkhize_get64(answer + CATKHIZE_PART_AT_OFFSET) == offsets[i]);
+    }
+}
+
 static void test_plan(void) {
     static const uint64_t lengths[3] = {1, 3, 3};
     static const uint64_t offsets[3] = {0, 1, 4};
-    uint8_t i;
     fill(plan, sizeof plan);
     CHECK(catkhize_plan_message(message, 7, 7, 0, CATKHIZE_WINDOW_PROHIBITED, 1, 7, plan, sizeof plan) == CATKHIZE_NOTHING);
     CHECK(catkhize_plan_message(message, 7, 6, 0, CATKHIZE_WINDOW_PROHIBITED, 1, 5, plan, sizeof plan) == CATKHIZE_REFUSED_PAYLOAD_BUDGET);
@@ -168,18 +183,10 @@ static void test_plan(void) {
     CHECK(untouched(plan, sizeof plan));
     CHECK(catkhize_plan_message(message, 7, 6, 0, CATKHIZE_WINDOW_PROHIBITED, 1, 6, plan, sizeof plan) == CATKHIZE_DONE);
     CHECK(plan[0] == CATKHIZE_LAYOUT_VERSION && plan[CATKHIZE_PLAN_AT_FORM] == CATKHIZE_PLAN_PLANNED);
-    CHECK(catkhize_get64(plan + CATKHIZE_PLAN_AT_COUNT) == 3);
     CHECK(plan[CATKHIZE_PLAN_AT_STATES_LENGTH] == 1);
-    for (i = 0; i < 3; i++) {
-        fill(answer, sizeof answer);
-        CHECK(catkhize_plan_segment(plan, sizeof plan, i, answer, CATKHIZE_PART_OCTETS) == CATKHIZE_DONE);
-        CHECK(answer[CATKHIZE_SEGMENT_AT_SEQUENCE] == i);
-        CHECK(catkhize_get64(answer + CATKHIZE_HEAD_AT_DATA_LENGTH) == lengths[i]);
-        CHECK(catkhize_get64(answer + CATKHIZE_PART_AT_OFFSET) == offsets[i]);
-    }
+    cuts(3, lengths, offsets);
     CHECK(catkhize_get16(answer + CATKHIZE_SEGMENT_AT_LENGTH) == 0 && answer[CATKHIZE_SEGMENT_AT_KIND] == CATKHIZE_KIND_END);
     fill(answer, sizeof answer);
-    CHECK(catkhize_plan_segment(plan, sizeof plan, 3, answer, CATKHIZE_PART_OCTETS) == CATKHIZE_NOTHING);
     CHECK(catkhize_plan_segment(plan, sizeof plan, 0, answer, CATKHIZE_PART_OCTETS - 1u) == CATKHIZE_REFUSED_BUFFER_TOO_SHORT);
     plan[0] = 2;
     CHECK(catkhize_plan_segment(plan, sizeof plan, 0, answer, CATKHIZE_PART_OCTETS) == CATKHIZE_REFUSED_BUFFER_SPELLS_NONE);
@@ -209,6 +216,38 @@ static void test_frozen(void) {
     CHECK(memcmp(frozen + CATKHIZE_PLAN_AT_FROZEN_HEADS, heads, sizeof heads) == 0);
     CHECK(catkhize_plan_segment(frozen, sizeof frozen, 2, answer, sizeof answer) == CATKHIZE_DONE);
     CHECK(catkhize_get64(answer + CATKHIZE_PART_AT_OFFSET) == 4);
+}
+
+static const uint8_t eight[8] = {0x30, 0x31, 0x32, 0x33, 0x34, 0x35, 0x36, 0x37};
+static const uint64_t even_lengths[4] = {1, 3, 2, 2};
+static const uint64_t even_offsets[4] = {0, 1, 4, 6};
+
+/* The even planner refuses as the other does, and cuts into as many segments with the same Begin. */
+static void test_even(void) {
+    static const uint64_t lengths[4] = {1, 3, 3, 1};
+    static const uint64_t offsets[4] = {0, 1, 4, 7};
+    uint8_t begin[CATKHIZE_PART_OCTETS];
+    fill(plan, sizeof plan);
+    CHECK(catkhize_plan_even(eight, 8, 8, 0, CATKHIZE_WINDOW_PROHIBITED, 1, 8, plan, sizeof plan) == CATKHIZE_NOTHING);
+    CHECK(catkhize_plan_even(eight, 8, 6, 0, CATKHIZE_WINDOW_PROHIBITED, 1, 5, plan, sizeof plan) == CATKHIZE_REFUSED_PAYLOAD_BUDGET);
+    CHECK(catkhize_plan_even(eight, 8, 6, 0, CATKHIZE_WINDOW_PROHIBITED, 0, 6, plan, sizeof plan) == CATKHIZE_REFUSED_VERSION);
+    CHECK(catkhize_plan_even(eight, 8, 6, 8, CATKHIZE_WINDOW_PROHIBITED, 1, 6, plan, sizeof plan) == CATKHIZE_REFUSED_FIELD_TRANSACTION_ID);
+    CHECK(catkhize_plan_even(eight, 8, 3, 0, CATKHIZE_WINDOW_PROHIBITED, 1, 6, plan, sizeof plan) == CATKHIZE_REFUSED_HEADER_CAPACITY);
+    CHECK(catkhize_plan_even(output, 257, 4, 0, CATKHIZE_WINDOW_PROHIBITED, 1, 6, plan, sizeof plan) == CATKHIZE_REFUSED_SEGMENT_COUNT);
+    CHECK(catkhize_plan_even(eight, 8, 6, 0, 6, 1, 6, plan, sizeof plan) == CATKHIZE_REFUSED_NUMBER_NAMES_NONE);
+    CHECK(catkhize_plan_even(eight, 8, 6, 0, CATKHIZE_WINDOW_PROHIBITED, 1, 6, plan, sizeof plan - 1) == CATKHIZE_REFUSED_BUFFER_TOO_SHORT);
+    CHECK(untouched(plan, sizeof plan));
+    CHECK(catkhize_plan_message(eight, 8, 6, 0, CATKHIZE_WINDOW_PROHIBITED, 1, 6, plan, sizeof plan) == CATKHIZE_DONE);
+    CHECK(catkhize_get64(plan + CATKHIZE_PLAN_AT_LATER_CAPACITY) == 3);
+    cuts(4, lengths, offsets);
+    CHECK(catkhize_plan_segment(plan, sizeof plan, 0, begin, sizeof begin) == CATKHIZE_DONE);
+    fill(plan, sizeof plan);
+    CHECK(catkhize_plan_even(eight, 8, 6, 0, CATKHIZE_WINDOW_PROHIBITED, 1, 6, plan, sizeof plan) == CATKHIZE_DONE);
+    CHECK(plan[0] == CATKHIZE_LAYOUT_VERSION && plan[CATKHIZE_PLAN_AT_FORM] == CATKHIZE_PLAN_PLANNED);
+    CHECK(catkhize_get64(plan + CATKHIZE_PLAN_AT_LATER_CAPACITY) == 2);
+    cuts(4, even_lengths, even_offsets);
+    CHECK(answer[CATKHIZE_SEGMENT_AT_KIND] == CATKHIZE_KIND_END);
+    CHECK(catkhize_plan_segment(plan, sizeof plan, 0, answer, sizeof answer) == CATKHIZE_DONE && memcmp(answer, begin, sizeof begin) == 0);
 }
 
 #define PEER 0, 34, 5
@@ -602,6 +641,37 @@ static void test_sender_ends(void) {
     CHECK(catkhize_sender_cancel(sender, sizeof sender, 100, state, sizeof state) == CATKHIZE_DONE && state[0] == CATKHIZE_SENDER_CANCELLED);
 }
 
+/* A sender of an even plan, sent to its end. Of the later capacities 1 to 4 those of the planners are taken, 2 and 3. */
+static void test_sender_even(void) {
+    uint64_t later, ticket;
+    fill(plan, sizeof plan);
+    CHECK(catkhize_plan_even(eight, 8, 6, 2, CATKHIZE_WINDOW_PROHIBITED, 1, 6, plan, sizeof plan) == CATKHIZE_DONE);
+    for (later = 1; later <= 4; later += 3) {
+        catkhize_put64(plan + CATKHIZE_PLAN_AT_LATER_CAPACITY, later);
+        fill(sender, sizeof sender);
+        CHECK(catkhize_sender_new(sender, sizeof sender, PEER, PROTOCOL, plan, sizeof plan, eight, 8, 1, NUMBER, 0) == CATKHIZE_REFUSED_PLAN);
+        CHECK(untouched(sender, sizeof sender));
+    }
+    catkhize_put64(plan + CATKHIZE_PLAN_AT_LATER_CAPACITY, 3); /* plan_message's */
+    fill(sender, sizeof sender);
+    CHECK(catkhize_sender_new(sender, sizeof sender, PEER, PROTOCOL, plan, sizeof plan, eight, 8, 1, NUMBER, 0) == CATKHIZE_DONE);
+    fill(plan, sizeof plan);
+    CHECK(catkhize_plan_even(eight, 8, 6, 2, CATKHIZE_WINDOW_PROHIBITED, 1, 6, plan, sizeof plan) == CATKHIZE_DONE);
+    fill(sender, sizeof sender);
+    CHECK(catkhize_sender_new(sender, sizeof sender, PEER, PROTOCOL, plan, sizeof plan, eight, 8, 1, NUMBER, 0) == CATKHIZE_DONE);
+    CHECK(sender[CATKHIZE_SENDER_AT_STATE] == CATKHIZE_SENDER_PREPARED);
+    for (ticket = 0; ticket < 4; ticket++) {
+        CHECK(submission() == CATKHIZE_DONE);
+        CHECK(catkhize_get64(answer + CATKHIZE_SUBMISSION_AT_HEAD + CATKHIZE_HEAD_AT_DATA_LENGTH) == even_lengths[ticket]);
+        CHECK(catkhize_get64(answer + CATKHIZE_SUBMISSION_AT_OFFSET) == even_offsets[ticket]);
+        send_one(ticket);
+    }
+    CHECK(submission() == CATKHIZE_NOTHING);
+    CHECK(catkhize_get64(sender + CATKHIZE_SENDER_AT_SUBMISSIONS) == 4);
+    CHECK(sender[CATKHIZE_SENDER_AT_STATE] == CATKHIZE_SENDER_COMPLETE);
+    CHECK(sender[CATKHIZE_SENDER_AT_STATE + CATKHIZE_STATE_AT_COMPLETION] == CATKHIZE_COMPLETE_LOWER_LAYER_ACCEPTED);
+}
+
 static void run(void) {
     test_numbers();
     test_layouts();
@@ -609,6 +679,7 @@ static void run(void) {
     test_decode();
     test_plan();
     test_frozen();
+    test_even();
     test_receiver();
     test_receiver_time();
     test_release_refused();
@@ -620,6 +691,7 @@ static void run(void) {
     test_short_answers();
     test_sender();
     test_sender_ends();
+    test_sender_even();
 }
 
 /* The tests run on a stack of their own, which was filled before. */

@@ -18,8 +18,9 @@ EXPORTS = ['catkhize', 'train_c']
 ERRORS = []
 
 
-def error(name, file, old, new, nth=0):
-    ERRORS.append((name, file, old, new, nth))
+def error(name, file, old, new, nth=0, also=()):
+    """old, at its nth place in a file, becomes new; so do the others of `also`, each at its first place."""
+    ERRORS.append((name, file, [(old, new, nth)] + [(*each, 0) for each in also]))
 
 
 # ---- codec
@@ -111,9 +112,28 @@ error('p06 the ceiling tested after Unsegmented', P, '''    if ceiling < payload
         return MessagePlan::Refused(PlanningError::PayloadBudget);
     }''')
 error('p07 the last segment is a Continue', P, 'if index + 1 == self.count {', 'if index == self.count {')
-error('p08 offsets of equal segments', P, 'self.begin_octets + (index - 1) * self.later_capacity', 'index * self.later_capacity')
+error('p08 offsets of equal segments', P, '        self.begin_octets + before\n', '        self.later_capacity + before\n')
 error('p09 a segment that begins past the message', P, 'if self.message_octets < offset {', 'if self.count < index {')
 error('p10 no segment at the end of the message', P, 'if self.message_octets < offset {', 'if self.message_octets <= offset {')
+error('p11 the longer ones last', P, 'if self.longer() < index {', 'if index + smaller(self.count - 1, self.longer()) < self.count {', also=[
+    ('smaller(index - 1, self.longer())', '(index - 1) - smaller(index - 1, self.count - 1 - smaller(self.count - 1, self.longer()))')])
+error('p12 one longer too many', P, '        self.message_octets - held\n', '        self.message_octets - held + 1\n')
+error('p13 a share rounded up', P, '(self.message_octets - self.begin_octets) / (self.count - 1)', 'div_ceil(self.message_octets - self.begin_octets, self.count - 1)')
+error('p14 an even planner that refuses where a share would be 1', P, 'MessagePlan::Segmented(p) => MessagePlan::Segmented(p.evened()),', '''MessagePlan::Segmented(p) => {
+            if p.share() == 1 {
+                return MessagePlan::Refused(PlanningError::HeaderCapacity);
+            }
+            MessagePlan::Segmented(p.evened())
+        }''')
+error('p15 an even plan of two segments that keeps the capacity', P, '''        if self.count <= 1 {
+            return 0;
+        }''', '''        if self.count <= 2 {
+            return self.later_capacity;
+        }''')
+error('p16 a share of the whole message', P, '(self.message_octets - self.begin_octets) / (self.count - 1)', 'self.message_octets / self.count')
+error('p17 one octet more beside 255', P, 'if MAX_SEGMENT_DATA_OCTETS < self.later_capacity + smaller(1, self.longer()) {', 'if MAX_SEGMENT_DATA_OCTETS < self.later_capacity {')
+error('p18 segments of a plan of 257', P, 'if MAX_SEGMENTS < self.count {', 'if MAX_SEGMENTS < index {')
+error('p19 plan_even is plan_message', 'plan_c/src/lib.rt', 'let given = plan_even(', 'let given = plan_message(')
 
 # ---- frozen check
 F = 'segmentation/src/frozen.rt'
@@ -433,6 +453,9 @@ error('s38 submission() in AwaitingAccept', X, 'if !state.prepared() {', 'if sta
 error('s39 the offer of another segment', X, 'offer_of(self.terms.number, x, plan.segment(x.index))', 'offer_of(self.terms.number, x, plan.segment(0))')
 error('s40 a version below 1 taken', X, 'if version < PV1 {', 'if version + 1 < PV1 {')
 error('s41 a planned plan with junk in its frozen part taken', Y, 'is_no_frozen(beside)', 'is_no_frozen(beside) || true')
+error('s42 a 40 that knows plan_message alone', Y, '            same_plan(q.evened(), p)\n', '            false\n')
+error('s43 a 40 that knows plan_even alone', Y, '            if same_plan(q, p) {\n                return true;\n            }\n', '')
+error('s44 40 does not read the later capacity', Y, '    if p.later_capacity != q.later_capacity {\n        return false;\n    }\n', '')
 
 # ---- trains, and what the exports give for themselves
 W, O = 'train_c/src/lib.rt', 'codec_c/src/codes.rt'
@@ -498,15 +521,17 @@ def compile_exports(crates, folder):
     return made.stderr if made.returncode else None
 
 
-def apply(crates, file, old, new, nth):
+def apply(crates, file, changes):
     path = os.path.join(crates, file)
     text = open(path).read()
-    at = -1
-    for _ in range(nth + 1):
-        at = text.find(old, at + 1)
-    if at < 0:
-        return False
-    open(path, 'w').write(text[:at] + new + text[at + len(old):])
+    for old, new, nth in changes:
+        at = -1
+        for _ in range(nth + 1):
+            at = text.find(old, at + 1)
+        if at < 0:
+            return False
+        text = text[:at] + new + text[at + len(old):]
+    open(path, 'w').write(text)
     return True
 
 
@@ -546,12 +571,12 @@ def main():
     if said:
         sys.exit(f'the exports as they are: {said}')
     found, missed, wrong = 0, [], []
-    for name, file, old, new, nth in ERRORS:
+    for name, file, changes in ERRORS:
         if wanted and not name.startswith(tuple(wanted)):
             continue
         shutil.rmtree(crates, ignore_errors=True)
         shutil.copytree(source, crates)
-        if not apply(crates, file, old, new, nth):
+        if not apply(crates, file, changes):
             wrong.append(name)
             print(name, 'DOES NOT FIT THE CODE', flush=True)
             continue

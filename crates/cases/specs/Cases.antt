@@ -26,10 +26,9 @@ use Rattle.tsar.specs.Layout.{whole, written, bitsOf, bits, octetsOf, fieldsWit
 use Rattle.tsar.specs.Reading.{Decoded, decoded, refused, segmentOf, segmentAs, servicesOf, stepOf, runParams, compressionOf, windowOf, statusOf}
 use Rattle.tsar.specs.Writing.{Written, wrote, encodeOf}
 use Rattle.tsar.proofs.OneOctet.{p10-begin}
-use Rattle.segmentation.specs.Plan.{Planning, unsegmented, refused as planRefused, segmented, planMessage, planOf, segmentCount, segmentAt}
+use Rattle.segmentation.specs.Plan.{Planning, unsegmented, refused as planRefused, segmented, planMessage, planOf, segmentCount, longer, segmentAt}
 use Rattle.segmentation.specs.declared.SegmentedMessage.{SegmentedMessage}
-use Rattle.segmentation.specs.declared.PlannedSegment.{PlannedSegment}
-use Rattle.segmentation.specs.declared.PlannedSegment.the-variants.{NoSegment, Segment as Planned}
+use Rattle.segmentation.proofs.Even.{lengthAt}
 use Rattle.response.specs.declared.Status.the-variants.{Aborted}
 use Rattle.receiver.specs.declared.ReceiverState.{ReceiverState}
 use Rattle.receiver.specs.declared.ReceiverState.the-variants.{Receiving, Complete, Failed}
@@ -63,15 +62,11 @@ unfoldable pub upTo : ℕ → (ℕ → ℕ) → List ℕ
 upTo zero f = []
 upTo (suc n) f = f 0 ∷ upTo n (λ i. f (suc i))
 
--- what the plan's public call gives for a segment: the data length that its head says
-abbrev headLength : PlannedSegment → ℕ
-headLength NoSegment = 0
-headLength (Planned x) = x .head .«segment_data_length»
-
+-- what the plan's public call gives for each segment: the data length that its head says
 abbrev headLengths : Planning → List ℕ
 headLengths unsegmented = []
 headLengths (planRefused n) = []
-headLengths (segmented p) = upTo (p .count) (λ i. headLength (segmentAt p i))
+headLengths (segmented p) = upTo (p .count) (lengthAt p)
 
 -- and that of its data out of the message
 abbrev dataLengths : Planning → List ℕ → List ℕ
@@ -214,7 +209,7 @@ All [] = Unit {0}
 All (c ∷ cs) = Gives c × All cs
 
 p10 : (d o₁ o₂ o₃ o₄ o₅ o₆ : ℕ) → d < 256 → Gives (cuts (d ∷ o₁ ∷ o₂ ∷ o₃ ∷ o₄ ∷ o₅ ∷ o₆ ∷ []) 6 (1 ∷ 3 ∷ 3 ∷ []) (1 ∷ 3 ∷ 3 ∷ []) (0x00 ∷ 0x00 ∷ 0x01 ∷ d ∷ 0x10 ∷ 0x07 ∷ []))
-unfolding given planMessage planOf segmentCount segmentAt upTo
+unfolding given planMessage planOf segmentCount longer segmentAt upTo
 p10 d o₁ o₂ o₃ o₄ o₅ o₆ h = ap (cuts (d ∷ o₁ ∷ o₂ ∷ o₃ ∷ o₄ ∷ o₅ ∷ o₆ ∷ []) 6 (1 ∷ 3 ∷ 3 ∷ []) (1 ∷ 3 ∷ 3 ∷ [])) (p10-begin d h)
 
 -- a plan depends on the message's length alone
@@ -225,6 +220,6 @@ unfolding given
 planned-as m budget k n r e p q = rw (e, p, q)
 
 pub all-cases : (d o₁ o₂ o₃ o₄ o₅ o₆ : ℕ) (m n : List ℕ) → d < 256 → length m ≡ 256 → length n ≡ 257 → All (cases d o₁ o₂ o₃ o₄ o₅ o₆ m n)
-unfolding cases given segmentOf segmentAs servicesOf stepOf runParams compressionOf windowOf statusOf encodeOf bitsOf bits octetsOf fieldsWith planMessage planOf segmentCount receiveAll tryNewOf receiveOf impossible allBelow sumTo emptySlots emptyLengths joined sameOctets wipedTo marked wordsOf sumBelow highestOf
+unfolding cases given segmentOf segmentAs servicesOf stepOf runParams compressionOf windowOf statusOf encodeOf bitsOf bits octetsOf fieldsWith planMessage planOf segmentCount longer receiveAll tryNewOf receiveOf impossible allBelow sumTo emptySlots emptyLengths joined sameOctets wipedTo marked wordsOf sumBelow highestOf
 all-cases d o₁ o₂ o₃ o₄ o₅ o₆ m n h e f =
     (refl, (refl, (refl, (refl, (refl, (refl, (refl, (refl, (refl, (refl, (refl, (refl, (refl, (refl, (refl, (refl, (refl, (p10 d o₁ o₂ o₃ o₄ o₅ o₆ h, (planned-as m 4 256 (some 256) none e refl refl, (planned-as n 4 257 none (some (22, 0)) f refl refl, (refl, (refl, tt))))))))))))))))))))))

@@ -1,6 +1,6 @@
 // Plans and frozen plans.
 ghost use mathlib.Core.Path.{_≡_};
-ghost use Rattle.plan_c.specs.Calls.{planCall, planMessageCall, partCall, planSegmentCall, tryFromFrozenCall};
+ghost use Rattle.plan_c.specs.Calls.{planCall, planMessageCall, planEvenCall, partCall, planSegmentCall, tryFromFrozenCall};
 
 // Plans the segments of a message. The plan is put into plan.
 #[no_mangle]
@@ -16,6 +16,22 @@ pub extern "C" fn catkhize_plan_message(
     ensures { λ r. ⌜ planCall r (now (plan .exit)) ≡ planMessageCall (now (message .entry)) budget transaction window version ceiling (now (plan .entry)) ⌝ }
 {
     plan_c::catkhize_plan_message(message, budget, transaction, window, version, ceiling, plan)
+}
+
+// The same with later segments of even length.
+#[no_mangle]
+pub extern "C" fn catkhize_plan_even(
+    message: &[u8],
+    budget: u64,
+    transaction: u8,
+    window: u8,
+    version: u8,
+    ceiling: u64,
+    plan: &mut [u8],
+) -> u32
+    ensures { λ r. ⌜ planCall r (now (plan .exit)) ≡ planEvenCall (now (message .entry)) budget transaction window version ceiling (now (plan .entry)) ⌝ }
+{
+    plan_c::catkhize_plan_even(message, budget, transaction, window, version, ceiling, plan)
 }
 
 // Segment i of the plan that PLAN spells, of either form. Answers PART.

@@ -7,12 +7,14 @@ use mathlib.Core.Option.{Option, none}
 use lib.ListN.{length, take, drop}
 use Rattle.tsar.specs.Layout.{WholeSegment, whole}
 use Rattle.tsar.specs.declared.AcknowledgmentWindow.{AcknowledgmentWindow}
-use Rattle.segmentation.specs.Plan.{planMessage, segmented, segmentAt}
-use Rattle.segmentation.specs.Frozen.{noHead}
+use Rattle.segmentation.specs.Plan.{planMessage, evenMessage, segmented, segmentAt}
+use Rattle.segmentation.specs.Frozen.{noHead, headAt, frozenRefusal, frozenOf, frozenSegmentAt}
+use Rattle.segmentation.specs.declared.FrozenMessage.{FrozenMessage}
+use Rattle.tsar.specs.declared.SegmentHead.{SegmentHead}
 use Rattle.segmentation.specs.Cutting.{Cutting}
 use Rattle.segmentation.specs.declared.SegmentedMessage.{SegmentedMessage}
 use Rattle.segmentation.specs.declared.PlannedSegment.{PlannedSegment}
-use Rattle.segmentation.specs.declared.PlannedSegment.the-variants as planned
+use Rattle.segmentation.specs.declared.PlannedSegment.the-variants as part
 use Rattle.receiver.specs.Record.{storeOctets}
 use Rattle.receiver.specs.Answers.{Step, refused}
 use Rattle.receiver.specs.declared.Terms.{Terms}
@@ -33,23 +35,38 @@ FirstHalf new step =
 
 -- segment i of a plan of a message, as the plan's public call gives it, with its data
 abbrev pub givenSegment : PlannedSegment → List ℕ → WholeSegment
-givenSegment planned.NoSegment message = whole (noHead .segment) []
-givenSegment (planned.Segment x) message = whole (x .head .segment) (take (x .head .«segment_data_length») (drop (x .offset) message))
+givenSegment part.NoSegment message = whole (noHead .segment) []
+givenSegment (part.Segment x) message = whole (x .head .segment) (take (x .head .«segment_data_length») (drop (x .offset) message))
 
 abbrev pub trainOf : SegmentedMessage → List ℕ → ℕ → WholeSegment
 trainOf p message i = givenSegment (segmentAt p i) message
 
--- for every train of plan_message for a message within the maximum, under the transaction and the version that try_new was given, and every list of
--- calls under the delivery conditions: of each call of it
+abbrev pub frozenTrainOf : FrozenMessage → List ℕ → ℕ → WholeSegment
+frozenTrainOf f message i = givenSegment (frozenSegmentAt f i) message
+
+-- a train for a message under a transaction and a version: one of either planner, or one that the frozen check accepts, whoever proposed it
+pub data TrainFor (transaction version : ℕ) (message : List ℕ) : ℕ → (ℕ → WholeSegment) → Type 0 where
+  planned : (budget ceiling : ℕ) (w : AcknowledgmentWindow) (p : SegmentedMessage)
+      → planMessage (length message) budget transaction w version ceiling ≡ segmented p → TrainFor transaction version message (p .count) (trainOf p message)
+  evenly : (budget ceiling : ℕ) (w : AcknowledgmentWindow) (p : SegmentedMessage)
+      → evenMessage (length message) budget transaction w version ceiling ≡ segmented p → TrainFor transaction version message (p .count) (trainOf p message)
+  frozen : (heads : List SegmentHead) (count : ℕ) (joined : List ℕ) (budget ceiling : ℕ)
+      → headAt heads 0 .segment .«transaction_id» ≡ transaction
+      → frozenRefusal (record { heads = heads; count = count; joined = joined; message = message; budget = budget; version = version; ceiling = ceiling }) ≡ none
+      → TrainFor transaction version message count
+      (frozenTrainOf (frozenOf (record { heads = heads; count = count; joined = joined; message = message; budget = budget; version = version; ceiling = ceiling })) message)
+
+-- for every such train of a message within the maximum, under the transaction and the version that try_new was given, and every list of calls under
+-- the delivery conditions: of each call of it
 abbrev pub SecondHalf : ℕ → TryNewFunction → StepFunction → Type 0
 SecondHalf interval new step =
     (t : Terms) (made : ℕ) → new t made .refused ≡ none
-    → (store message : List ℕ) (budget ceiling : ℕ) (w : AcknowledgmentWindow) (p : SegmentedMessage)
-    → planMessage (length message) budget (t .«transaction_id») w (t .version) ceiling ≡ segmented p
+    → (store message : List ℕ) (count : ℕ) (segment : ℕ → WholeSegment)
+    → TrainFor (t .«transaction_id») (t .version) message count segment
     → length message ≤ t .«maximum_message_octets» → storeOctets ≤ length store
     → (cs : List Call) (c : Call)
-    → DeliveryConditions interval t made (p .count) (trainOf p message) [] (cs ++ (c ∷ []))
-    → HandsOverExactly (p .count) (trainOf p message) message cs c (stepAfter step (after step (start (new t made .receiver) store) cs) c)
+    → DeliveryConditions interval t made count segment [] (cs ++ (c ∷ []))
+    → HandsOverExactly count segment message cs c (stepAfter step (after step (start (new t made .receiver) store) cs) c)
 
 -- of a receiver that is given by what try_new gives and by its step function
 pub record Demand3 (interval : ℕ) (new : TryNewFunction) (step : StepFunction) : Type 0 where

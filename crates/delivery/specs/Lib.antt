@@ -1,6 +1,6 @@
 -- Demand 3 (Calls, Delivery, Demand), what a call leaves (Leaves) and the occasions on which a store is wiped (Occasions) are statements. The other
--- files are laws and proofs: of demand 3 up to Refuted, Left of Leaves, Wiping and OccasionsRefuted of Occasions, AfterRelease of what a release gives
--- and leaves.
+-- files are laws and proofs: of demand 3 up to TrainsRefuted, Left of Leaves, Wiping and OccasionsRefuted of Occasions, AfterRelease of what a
+-- release gives and leaves.
 pub mod Calls
 pub mod Delivery
 pub mod Demand
@@ -25,7 +25,9 @@ pub mod ProgressNew
 pub mod ProgressAll
 pub mod Theorem
 pub mod Witness
+pub mod InOrder
 pub mod Refuted
+pub mod TrainsRefuted
 pub mod Left
 pub mod Wiping
 pub mod AfterRelease

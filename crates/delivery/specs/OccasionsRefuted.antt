@@ -12,6 +12,7 @@ use Rattle.octets.specs.Octets.{wipedTo, sameOctets}
 use Rattle.words.specs.Laws.{marked-none}
 use Rattle.words.specs.Marks.{marked, sumBelow, wordsOf, allBelow, highestOf}
 use Rattle.tsar.specs.declared.AcknowledgmentWindow.the-variants as window
+use Rattle.segmentation.specs.Plan.{longer}
 use Rattle.receiver.specs.declared.ReceiverState.{ReceiverState}
 use Rattle.receiver.specs.declared.ReceiverState.the-variants.{AwaitingBegin, Receiving, Complete, Expired, Canceled}
 use Rattle.receiver.specs.declared.Receiver.{Receiver}
@@ -54,47 +55,47 @@ complete₀ = after (stepOf 300000) almost₀ (bring window.Prohibited true 1 9 
 
 -- the Begin again, with other parameters
 pub failure-occurs : Occurs begun₀ (bring window.Prohibited false 0 6) failure
-unfolding tryNewOf receiveOf advanceOf cancelOf releaseOf impossible allBelow sumTo emptySlots emptyLengths joined sameOctets wipedTo marked wordsOf sumBelow highestOf
+unfolding tryNewOf receiveOf advanceOf cancelOf releaseOf impossible allBelow sumTo emptySlots emptyLengths joined sameOctets wipedTo marked wordsOf sumBelow highestOf longer
 failure-occurs = record { occasion-is = refl; stored = refl }
 
 -- an advance at the deadline
 pub expiry-occurs : Occurs begun₀ (advance 300005) expiry
-unfolding tryNewOf receiveOf advanceOf cancelOf releaseOf impossible allBelow sumTo emptySlots emptyLengths joined sameOctets wipedTo marked wordsOf sumBelow highestOf
+unfolding tryNewOf receiveOf advanceOf cancelOf releaseOf impossible allBelow sumTo emptySlots emptyLengths joined sameOctets wipedTo marked wordsOf sumBelow highestOf longer
 expiry-occurs = record { occasion-is = refl; stored = refl }
 
 -- a receive past it, which is refused with 38 and wipes all the same
 pub late-expiry-occurs : Occurs begun₀ (bring window.Prohibited true 1 300006) expiry
-unfolding tryNewOf receiveOf advanceOf cancelOf releaseOf impossible allBelow sumTo emptySlots emptyLengths joined sameOctets wipedTo marked wordsOf sumBelow highestOf
+unfolding tryNewOf receiveOf advanceOf cancelOf releaseOf impossible allBelow sumTo emptySlots emptyLengths joined sameOctets wipedTo marked wordsOf sumBelow highestOf longer
 late-expiry-occurs = record { occasion-is = refl; stored = refl }
 
 -- a cancel while Receiving
 pub cancelling-occurs : Occurs begun₀ (cancel 6) cancelling
-unfolding tryNewOf receiveOf advanceOf cancelOf releaseOf impossible allBelow sumTo emptySlots emptyLengths joined sameOctets wipedTo marked wordsOf sumBelow highestOf
+unfolding tryNewOf receiveOf advanceOf cancelOf releaseOf impossible allBelow sumTo emptySlots emptyLengths joined sameOctets wipedTo marked wordsOf sumBelow highestOf longer
 cancelling-occurs = record { occasion-is = refl; stored = refl }
 
 -- a release after the hand-over
 pub releasing-occurs : Occurs complete₀ (release 10) releasing
-unfolding tryNewOf receiveOf advanceOf cancelOf releaseOf impossible allBelow sumTo emptySlots emptyLengths joined sameOctets wipedTo marked wordsOf sumBelow highestOf
+unfolding tryNewOf receiveOf advanceOf cancelOf releaseOf impossible allBelow sumTo emptySlots emptyLengths joined sameOctets wipedTo marked wordsOf sumBelow highestOf longer
 releasing-occurs = record { occasion-is = refl; stored = refl }
 
 -- a repeat after a release gets Closed
 pub repeat-closed : stepAfter (stepOf 300000) (after (stepOf 300000) complete₀ (release 10 ∷ [])) (bring window.Prohibited true 0 11) .answer ≡ refused (38, 0)
-unfolding tryNewOf receiveOf advanceOf cancelOf releaseOf impossible allBelow sumTo emptySlots emptyLengths joined sameOctets wipedTo marked wordsOf sumBelow highestOf
+unfolding tryNewOf receiveOf advanceOf cancelOf releaseOf impossible allBelow sumTo emptySlots emptyLengths joined sameOctets wipedTo marked wordsOf sumBelow highestOf longer
 repeat-closed = refl
 
 -- ---- receivers that are shut out
 
 -- the records that they are shown on: what is computed of them
 almost-receiving : almost₀ .receiver .progress .state ≡ Receiving
-unfolding tryNewOf receiveOf advanceOf cancelOf releaseOf impossible allBelow sumTo emptySlots emptyLengths joined sameOctets wipedTo marked wordsOf sumBelow highestOf
+unfolding tryNewOf receiveOf advanceOf cancelOf releaseOf impossible allBelow sumTo emptySlots emptyLengths joined sameOctets wipedTo marked wordsOf sumBelow highestOf longer
 almost-receiving = refl
 
 complete-is : complete₀ .receiver .progress .state ≡ Complete
-unfolding tryNewOf receiveOf advanceOf cancelOf releaseOf impossible allBelow sumTo emptySlots emptyLengths joined sameOctets wipedTo marked wordsOf sumBelow highestOf
+unfolding tryNewOf receiveOf advanceOf cancelOf releaseOf impossible allBelow sumTo emptySlots emptyLengths joined sameOctets wipedTo marked wordsOf sumBelow highestOf longer
 complete-is = refl
 
 complete-holds : isHeld (complete₀ .receiver) 0 ≡ true
-unfolding tryNewOf receiveOf advanceOf cancelOf releaseOf impossible allBelow sumTo emptySlots emptyLengths joined sameOctets wipedTo marked wordsOf sumBelow highestOf
+unfolding tryNewOf receiveOf advanceOf cancelOf releaseOf impossible allBelow sumTo emptySlots emptyLengths joined sameOctets wipedTo marked wordsOf sumBelow highestOf longer
 complete-holds = refl
 
 -- ours, but a release leaves the store
@@ -206,7 +207,7 @@ module _ (r : Receiver) (store : List ℕ) (a : Arrival) (out : List ℕ) (e : r
 
 -- the middle segment, in time
 in-time : late (almost₀ .receiver .progress .«deadline_monotonic_ms») 9 ≡ false
-unfolding tryNewOf receiveOf advanceOf cancelOf releaseOf impossible allBelow sumTo emptySlots emptyLengths joined sameOctets wipedTo marked wordsOf sumBelow highestOf
+unfolding tryNewOf receiveOf advanceOf cancelOf releaseOf impossible allBelow sumTo emptySlots emptyLengths joined sameOctets wipedTo marked wordsOf sumBelow highestOf longer
 in-time = refl
 
 pub hands-and-closes-refuted : WipesOnOccasion handsAndCloses → ⊥

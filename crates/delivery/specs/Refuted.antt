@@ -12,6 +12,7 @@ use Rattle.octets.specs.Octets.{wipedTo, sameOctets}
 use Rattle.words.specs.Marks.{marked, sumBelow, wordsOf, allBelow, highestOf}
 use Rattle.tsar.specs.Kinds.{isBegin}
 use Rattle.tsar.specs.declared.AcknowledgmentWindow.the-variants as window
+use Rattle.segmentation.specs.Plan.{longer}
 use Rattle.receiver.specs.declared.Deadline.{Deadline}
 use Rattle.receiver.specs.declared.Deadline.the-variants as deadline
 use Rattle.receiver.specs.declared.ReceiverState.the-variants.{Expired}
@@ -113,26 +114,26 @@ carries-none (refused n) = refl
 carries-none (answered r m) = refl
 
 -- no message is not one of k octets
-none-some : (o : Option ℕ) (k : ℕ) → o ≡ none → o ≡ some k → ⊥
+pub none-some : (o : Option ℕ) (k : ℕ) → o ≡ none → o ≡ some k → ⊥
 none-some o k e f = let z : _≡_ {A = ℕ} 0 1 = cc in omega arith
 
 -- under Prohibited Closed, under Every4 37
 deadline-now-38 : lastStep window.Prohibited true tryNewOf deadlineNow .answer ≡ refused (38, 0)
-unfolding tryNewOf receiveOf advanceOf releaseOf impossible allBelow sumTo emptySlots emptyLengths joined sameOctets wipedTo marked wordsOf sumBelow highestOf
+unfolding tryNewOf receiveOf advanceOf releaseOf impossible allBelow sumTo emptySlots emptyLengths joined sameOctets wipedTo marked wordsOf sumBelow highestOf longer
 deadline-now-38 = refl
 
 deadline-now-37 : lastStep window.Every4 false tryNewOf deadlineNow .answer ≡ refused (37, 0)
-unfolding tryNewOf receiveOf advanceOf releaseOf impossible allBelow sumTo emptySlots emptyLengths joined sameOctets wipedTo marked wordsOf sumBelow highestOf
+unfolding tryNewOf receiveOf advanceOf releaseOf impossible allBelow sumTo emptySlots emptyLengths joined sameOctets wipedTo marked wordsOf sumBelow highestOf longer
 deadline-now-37 = refl
 
 -- released before, it is closed
 releases-open-38 : lastStep window.Prohibited true tryNewOf releasesOpen .answer ≡ refused (38, 0)
-unfolding tryNewOf receiveOf advanceOf releaseOf impossible allBelow sumTo emptySlots emptyLengths joined sameOctets wipedTo marked wordsOf sumBelow highestOf
+unfolding tryNewOf receiveOf advanceOf releaseOf impossible allBelow sumTo emptySlots emptyLengths joined sameOctets wipedTo marked wordsOf sumBelow highestOf longer
 releases-open-38 = refl
 
 -- 7 octets, of which the fifth is what stood in the store before
 stores-begin-octet : getD (take 7 (lastStep window.Prohibited true tryNewOf storesBegin .output)) 4 0 ≡ 165
-unfolding tryNewOf receiveOf advanceOf releaseOf impossible allBelow sumTo emptySlots emptyLengths joined sameOctets wipedTo marked wordsOf sumBelow highestOf
+unfolding tryNewOf receiveOf advanceOf releaseOf impossible allBelow sumTo emptySlots emptyLengths joined sameOctets wipedTo marked wordsOf sumBelow highestOf longer
 stores-begin-octet = refl
 
 -- ---- refuted

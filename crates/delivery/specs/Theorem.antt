@@ -10,10 +10,11 @@ use lib.Seq.{length-take-le}
 use Rattle.tsar.specs.Rows.{refusal}
 use Rattle.tsar.specs.Layout.{WholeSegment}
 use Rattle.tsar.specs.Writing.{codecRows}
+use Rattle.link.specs.declared.HigherLayerProtocol.the-variants.{Segmented}
 use Rattle.tsar.specs.declared.AcknowledgmentWindow.{AcknowledgmentWindow}
-use Rattle.segmentation.specs.Plan.{planMessage, segmented, plannedWhole, plannedHead, partStart, partLength}
+use Rattle.segmentation.specs.Plan.{segmented, plannedWhole, plannedHead, partStart, partLength}
 use Rattle.segmentation.specs.Joined.{cutting-cong}
-use Rattle.segmentation.specs.Planned.{plan-segment, plan-range, plan-codec, plan-cutting}
+use Rattle.segmentation.specs.Planned.{Spread, full, even, planning, plan-segment, plan-range, plan-codec, plan-cutting}
 use Rattle.segmentation.specs.declared.SegmentedMessage.{SegmentedMessage}
 use Rattle.segmentation.specs.declared.PlannedSegment.{PlannedSegment}
 use Rattle.receiver.specs.declared.Terms.{Terms}
@@ -23,7 +24,11 @@ use Rattle.receiver.specs.Answers.{Step}
 use Rattle.receiver.specs.Advance.{tryNewOf}
 use Rattle.delivery.specs.Calls.{Call, receive, advance, cancel, release, Left, HandOver, start, after, then, stepOf, carried, addAccepted, addHanded, AllOfAccepted}
 use Rattle.delivery.specs.Delivery.{HasCome, AllHaveCome, DeliveryConditions, HandsOver, HandsOverExactly}
-use Rattle.delivery.specs.Demand.{Demand3, NoneRefusedWith62, stepAfter, givenSegment, trainOf}
+use Rattle.delivery.specs.Demand.{Demand3, NoneRefusedWith62, stepAfter, givenSegment, trainOf, frozenTrainOf, TrainFor, planned, evenly, frozen}
+use Rattle.tsar.specs.Layout.{whole}
+use Rattle.segmentation.specs.Cutting.{Cutting}
+use Rattle.segmentation.specs.Frozen.{Proposal, proposed, headAt, dataBefore, frozenRefusal, frozenOf}
+use Rattle.segmentation.specs.Accepted.{Acceptable, frozen-acceptable, joined-message, cut-within, frozen-segment}
 use Rattle.delivery.specs.Invariant.{made-is, start-inv, after-the-list}
 use Rattle.delivery.specs.Possible.{start-ready, after-both, possible, never-62}
 use Rattle.delivery.specs.Train.{Train, headOf}
@@ -121,26 +126,26 @@ module _ (T : Train) (w : Left) (cs : List Call) (c : Call) (before : Delivered 
         (all′, not-before, hands all′ not-before);
   }
 
--- ---- the train of a plan
+-- ---- the train of a plan, of either planner
 
-module _ (interval : ℕ) (t : Terms) (made : ℕ) (message : List ℕ) (budget ceiling : ℕ) (w : AcknowledgmentWindow) (p : SegmentedMessage)
-    (ok : planMessage (length message) budget (t .«transaction_id») w (t .version) ceiling ≡ segmented p) (fits : length message ≤ t .«maximum_message_octets») where
+module _ (interval : ℕ) (t : Terms) (made : ℕ) (x : Spread) (message : List ℕ) (budget ceiling : ℕ) (w : AcknowledgmentWindow) (p : SegmentedMessage)
+    (ok : planning x (length message) budget (t .«transaction_id») w (t .version) ceiling ≡ segmented p) (fits : length message ≤ t .«maximum_message_octets») where
   -- segment i of the public call is the plan's
   given : (i : ℕ) → i < p .count → plannedWhole p message i ≡ trainOf p message i
-  given i h = ap (λ (s : PlannedSegment). givenSegment s message) (sym (plan-segment (length message) budget (t .«transaction_id») w (t .version) ceiling p ok i h))
+  given i h = ap (λ (s : PlannedSegment). givenSegment s message) (sym (plan-segment x (length message) budget (t .«transaction_id») w (t .version) ceiling p ok i h))
 
   -- its data are as long as its head says
   planned-length : (i : ℕ) → i < p .count → length (take (partLength p i) (drop (partStart p i) message)) ≡ partLength p i
   planned-length i h =
       length-take-le (partLength p i) (drop (partStart p i) message)
-      (rw length-drop (omega (arith, plan-range (length message) budget (t .«transaction_id») w (t .version) ceiling p ok i h)))
+      (rw length-drop (omega (arith, plan-range x (length message) budget (t .«transaction_id») w (t .version) ceiling p ok i h)))
 
   -- the codec takes it
   codec-takes : (i : ℕ) → i < p .count → refusal (codecRows (t .version) (headOf (trainOf p message i)) (length (trainOf p message i .«segment_data»))) ≡ none
   codec-takes i h =
-      subst (λ (x : WholeSegment). refusal (codecRows (t .version) (headOf x) (length (x .«segment_data»))) ≡ none) (given i h)
+      subst (λ (s : WholeSegment). refusal (codecRows (t .version) (headOf s) (length (s .«segment_data»))) ≡ none) (given i h)
       (subst (λ (n : ℕ). refusal (codecRows (t .version) (plannedHead p i .segment) n) ≡ none) (sym (planned-length i h))
-      (plan-codec (length message) budget (t .«transaction_id») w (t .version) ceiling p ok i))
+      (plan-codec x (length message) budget (t .«transaction_id») w (t .version) ceiling p ok i))
 
   -- so they are a train
   abbrev planTrain : Train
@@ -151,9 +156,48 @@ module _ (interval : ℕ) (t : Terms) (made : ℕ) (message : List ℕ) (budget 
     message = message;
     count = p .count;
     segment = trainOf p message;
-    cutting = cutting-cong (trainOf p message) given (plan-cutting (length message) budget (t .«transaction_id») w (t .version) ceiling p ok message refl);
+    cutting = cutting-cong (trainOf p message) given (plan-cutting x (length message) budget (t .«transaction_id») w (t .version) ceiling p ok message refl);
     codec = codec-takes;
     fits = fits;
+  }
+
+-- ---- the train of a frozen plan
+
+module _ (interval : ℕ) (t : Terms) (made : ℕ) (q : Proposal) (same-transaction : headAt (q .heads) 0 .segment .«transaction_id» ≡ t .«transaction_id») (same-version : q .version ≡ t .version)
+    (ok : frozenRefusal q ≡ none) (within : length (q .message) ≤ t .«maximum_message_octets») where
+  abbrev ok-all : Acceptable q
+  ok-all = frozen-acceptable q ok
+
+  -- segment i of the public call is the proposed one
+  frozen-given : (i : ℕ) → i < q .count → proposed q i ≡ frozenTrainOf (frozenOf q) (q .message) i
+  frozen-given i h =
+      ap (λ (l : List ℕ). whole (headAt (q .heads) i .segment) (take (headAt (q .heads) i .«segment_data_length») (drop (dataBefore (q .heads) i) l))) (joined-message q (ok-all .sums) (ok-all .cutting))
+      ∙ ap (λ (s : PlannedSegment). givenSegment s (q .message)) (sym (frozen-segment q ok i h))
+
+  -- its data are as long as its head says
+  frozen-length : (i : ℕ) → i < q .count → length (proposed q i .«segment_data») ≡ headAt (q .heads) i .«segment_data_length»
+  frozen-length i h =
+      length-take-le (headAt (q .heads) i .«segment_data_length») (drop (dataBefore (q .heads) i) (q .joined))
+      (rw length-drop (omega (arith, cut-within q (ok-all .sums) (ok-all .cutting) i h, ap length (joined-message q (ok-all .sums) (ok-all .cutting)))))
+
+  frozen-codec : (i : ℕ) → i < q .count → refusal (codecRows (t .version) (headOf (frozenTrainOf (frozenOf q) (q .message) i)) (length (frozenTrainOf (frozenOf q) (q .message) i .«segment_data»))) ≡ none
+  frozen-codec i h =
+      subst (λ (x : WholeSegment). refusal (codecRows (t .version) (headOf x) (length (x .«segment_data»))) ≡ none) (frozen-given i h)
+      (subst (λ (n : ℕ). refusal (codecRows (t .version) (headAt (q .heads) i .segment) n) ≡ none) (sym (frozen-length i h))
+      (subst (λ (v : ℕ). refusal (codecRows v (headAt (q .heads) i .segment) (headAt (q .heads) i .«segment_data_length»)) ≡ none) same-version (ok-all .codec i h)))
+
+  abbrev frozenTrain : Train
+  frozenTrain = record {
+    interval = interval;
+    terms = t;
+    made = made;
+    message = q .message;
+    count = q .count;
+    segment = frozenTrainOf (frozenOf q) (q .message);
+    cutting = subst (λ (n : ℕ). Cutting (q .message) n (q .count) (frozenTrainOf (frozenOf q) (q .message))) same-transaction
+        (cutting-cong (frozenTrainOf (frozenOf q) (q .message)) frozen-given (ok-all .cutting));
+    codec = frozen-codec;
+    fits = within;
   }
 
 -- ---- the theorem
@@ -186,12 +230,43 @@ train-exactly T e store room cs c D =
     (train-delivered T w₀ (known T e store) k cs (conditions-front (T .interval) (T .terms) (T .made) (T .count) (T .segment) [] cs (c ∷ []) D))
     (subst (λ (v : Left). Delivered T v (latestFirst [] (cs ++ (c ∷ [])))) (after-append (stepOf (T .interval)) w₀ cs (c ∷ [])) (train-delivered T w₀ (known T e store) k (cs ++ (c ∷ [])) D))
 
+-- of every train that is given
+given-exactly : (interval : ℕ) (t : Terms) (made : ℕ) → tryNewOf t made .refused ≡ none → (store message : List ℕ) (count : ℕ) (segment : ℕ → WholeSegment)
+    → TrainFor (t .«transaction_id») (t .version) message count segment → length message ≤ t .«maximum_message_octets» → storeOctets ≤ length store → (cs : List Call) (c : Call)
+    → DeliveryConditions interval t made count segment [] (cs ++ (c ∷ []))
+    → HandsOverExactly count segment message cs c (stepAfter (stepOf interval) (after (stepOf interval) (start (tryNewOf t made .receiver) store) cs) c)
+given-exactly interval t made e store message _ _ (planned budget ceiling w p ok) fits room cs c D =
+    train-exactly (planTrain interval t made full message budget ceiling w p ok fits) e store room cs c D
+given-exactly interval t made e store message _ _ (evenly budget ceiling w p ok) fits room cs c D =
+    train-exactly (planTrain interval t made even message budget ceiling w p ok fits) e store room cs c D
+given-exactly interval t made e store message _ _ (frozen heads count joined budget ceiling same ok) fits room cs c D =
+    train-exactly (frozenTrain interval t made (record { heads = heads; count = count; joined = joined; message = message; budget = budget; version = t .version; ceiling = ceiling }) same refl ok fits) e store room cs c D
+
+-- each is a true cutting of its message: that of some terms that hold it
+pub given-cutting : (transaction version : ℕ) (message : List ℕ) (count : ℕ) (segment : ℕ → WholeSegment) → TrainFor transaction version message count segment → Cutting message transaction count segment
+given-cutting transaction version message _ _ T = go T
+  where
+    terms : Terms
+    terms =
+        record {
+          peer = record { kind = 0; width = 0; value = 0 };
+          protocol = Segmented 0;
+          «transaction_id» = transaction;
+          version = version;
+          «maximum_message_octets» = length message;
+        }
+
+    go : {count : ℕ} {segment : ℕ → WholeSegment} → TrainFor transaction version message count segment → Cutting message transaction count segment
+    go (planned budget ceiling w p ok) = planTrain 0 terms 0 full message budget ceiling w p ok (omega arith) .cutting
+    go (evenly budget ceiling w p ok) = planTrain 0 terms 0 even message budget ceiling w p ok (omega arith) .cutting
+    go (frozen heads count joined budget ceiling same ok) =
+        frozenTrain 0 terms 0 (record { heads = heads; count = count; joined = joined; message = message; budget = budget; version = version; ceiling = ceiling }) same refl ok (omega arith) .cutting
+
 -- the receiver meets demand 3, whatever its interval is
 pub demand3 : (interval : ℕ) → Demand3 interval tryNewOf (stepOf interval)
 demand3 interval = record {
   first-half = after-the-list interval;
-  second-half = λ t made e store message budget ceiling w p ok fits room cs c D.
-      train-exactly (planTrain interval t made message budget ceiling w p ok fits) e store room cs c D;
+  second-half = given-exactly interval;
 }
 
 -- and none of its calls is refused with 62

@@ -14,7 +14,7 @@ use Rattle.words.specs.Marks.{marked, sumBelow, wordsOf, allBelow, highestOf}
 use Rattle.link.specs.declared.HigherLayerProtocol.the-variants.{Segmented}
 use Rattle.tsar.specs.declared.AcknowledgmentWindow.{AcknowledgmentWindow}
 use Rattle.tsar.specs.declared.AcknowledgmentWindow.the-variants as window
-use Rattle.segmentation.specs.Plan.{planMessage, planOf, segmentCount, segmented, segmentAt, plannedWhole, plannedHead}
+use Rattle.segmentation.specs.Plan.{longer, planMessage, planOf, segmentCount, segmented, segmentAt, plannedWhole, plannedHead}
 use Rattle.segmentation.specs.declared.SegmentedMessage.{SegmentedMessage}
 use Rattle.receiver.specs.Record.{storeOctets, sumTo, emptySlots, emptyLengths, joined, impossible}
 use Rattle.receiver.specs.Answers.{Step}
@@ -23,7 +23,7 @@ use Rattle.receiver.specs.Advance.{tryNewOf, advanceOf, releaseOf}
 use Rattle.receiver.specs.declared.Terms.{Terms}
 use Rattle.delivery.specs.Calls.{Call, receive, advance, release, StepFunction, TryNewFunction, stepOf, start, after, carried}
 use Rattle.delivery.specs.Delivery.{Brings, HasCome, AllHaveCome, ReadingMeets, DeliveryConditions, HandsOver}
-use Rattle.delivery.specs.Demand.{SecondHalf, stepAfter, trainOf}
+use Rattle.delivery.specs.Demand.{SecondHalf, stepAfter, trainOf, planned as by-plan}
 
 -- the message
 abbrev pub text : List ℕ
@@ -45,7 +45,7 @@ abbrev pub store₀ : List ℕ
 store₀ = replicate 65280 165
 
 -- it is long enough
-room : storeOctets ≤ length store₀
+pub room : storeOctets ≤ length store₀
 room = omega (arith, length-replicate {A = ℕ} 65280 165)
 
 -- try_new makes a receiver of it
@@ -102,7 +102,7 @@ module _ (w : AcknowledgmentWindow) (states : Bool) where
 
   -- it brings the plan's segment
   brings : (i : ℕ) → i < 3 → (now′ : ℕ) → Brings (trainOf (plan₀ w states) text i) (arrival i now′)
-  unfolding segmentAt
+  unfolding segmentAt longer
   brings zero h now′ = record { same-sequence = refl; same-kind = refl; same-data = refl }
   brings (suc zero) h now′ = record { same-sequence = refl; same-kind = refl; same-data = refl }
   brings (suc (suc zero)) h now′ = record { same-sequence = refl; same-kind = refl; same-data = refl }
@@ -195,7 +195,7 @@ module _ (w : AcknowledgmentWindow) (states : Bool) where
 
   -- and before it not
   lacks : HasCome (trainOf (plan₀ w states) text 1) earlier → ⊥
-  unfolding segmentAt
+  unfolding segmentAt longer
   lacks (inl b) = let z : _≡_ {A = ℕ} 0 1 = b .same-sequence in omega arith
   lacks (inr (inl b)) = let z : _≡_ {A = ℕ} 2 1 = b .same-sequence in omega arith
   lacks (inr (inr (inl b))) = let z : _≡_ {A = ℕ} 0 1 = b .same-sequence in omega arith
@@ -206,7 +206,7 @@ module _ (w : AcknowledgmentWindow) (states : Bool) where
 
   -- nor with the Begin alone
   begin-alone : HasCome (trainOf (plan₀ w states) text 1) (bring 0 5 ∷ []) → ⊥
-  unfolding segmentAt
+  unfolding segmentAt longer
   begin-alone (inl b) = let z : _≡_ {A = ℕ} 0 1 = b .same-sequence in omega arith
   begin-alone (inr c) = c
 
@@ -216,7 +216,7 @@ lastStep w states new step = stepAfter step (after step (start (new terms₀ 0 .
 
 -- ours hands the message over with it
 pub handed-over : HandsOver (lastStep window.Prohibited true tryNewOf (stepOf 300000)) text
-unfolding tryNewOf receiveOf advanceOf releaseOf impossible allBelow sumTo emptySlots emptyLengths joined sameOctets wipedTo marked wordsOf sumBelow highestOf
+unfolding tryNewOf receiveOf advanceOf releaseOf impossible allBelow sumTo emptySlots emptyLengths joined sameOctets wipedTo marked wordsOf sumBelow highestOf longer segmentAt
 handed-over = (refl, refl)
 
 -- a receiver of which the second half holds, and which try_new makes
@@ -224,24 +224,24 @@ module _ (interval : ℕ) (long : 4 < interval) (short : interval ≤ 2 ^ 63) (n
   -- hands the message over with the last call
   pub must : HandsOver (lastStep window.Prohibited true new step) text
   must =
-      p terms₀ 0 made store₀ text 6 100 window.Prohibited (plan₀ window.Prohibited true) planned (lit≤ tt) room (earlier window.Prohibited true) (last-call window.Prohibited true)
+      p terms₀ 0 made store₀ text 3 (trainOf (plan₀ window.Prohibited true) text) (by-plan 6 100 window.Prohibited (plan₀ window.Prohibited true) planned) (lit≤ tt) room (earlier window.Prohibited true) (last-call window.Prohibited true)
       (met window.Prohibited true interval long short) .when (all-come window.Prohibited true) (not-earlier window.Prohibited true)
 
   -- under Every4 too
   pub must-4 : HandsOver (lastStep window.Every4 false new step) text
   must-4 =
-      p terms₀ 0 made store₀ text 6 100 window.Every4 (plan₀ window.Every4 false) planned-4 (lit≤ tt) room (earlier window.Every4 false) (last-call window.Every4 false)
+      p terms₀ 0 made store₀ text 3 (trainOf (plan₀ window.Every4 false) text) (by-plan 6 100 window.Every4 (plan₀ window.Every4 false) planned-4) (lit≤ tt) room (earlier window.Every4 false) (last-call window.Every4 false)
       (met window.Every4 false interval long short) .when (all-come window.Every4 false) (not-earlier window.Every4 false)
 
   -- and hands nothing over with a release after it
   pub not-released : (k : ℕ) → carried (stepAfter step (after step (start (new terms₀ 0 .receiver) store₀) (whole window.Prohibited true)) (release 10) .answer) ≡ some k → ⊥
   not-released k e =
-      p terms₀ 0 made store₀ text 6 100 window.Prohibited (plan₀ window.Prohibited true) planned (lit≤ tt) room (whole window.Prohibited true) (release 10)
+      p terms₀ 0 made store₀ text 3 (trainOf (plan₀ window.Prohibited true) text) (by-plan 6 100 window.Prohibited (plan₀ window.Prohibited true) planned) (lit≤ tt) room (whole window.Prohibited true) (release 10)
       (met-released window.Prohibited true interval long short) .only-when k e .1 (all-come window.Prohibited true)
 
   -- nor with the first call, the Begin
   pub not-first : (k : ℕ) → carried (step (new terms₀ 0 .receiver) store₀ (bring window.Prohibited true 0 5) .answer) ≡ some k → ⊥
   not-first k e =
       begin-alone window.Prohibited true
-      (p terms₀ 0 made store₀ text 6 100 window.Prohibited (plan₀ window.Prohibited true) planned (lit≤ tt) room [] (bring window.Prohibited true 0 5)
+      (p terms₀ 0 made store₀ text 3 (trainOf (plan₀ window.Prohibited true) text) (by-plan 6 100 window.Prohibited (plan₀ window.Prohibited true) planned) (lit≤ tt) room [] (bring window.Prohibited true 0 5)
       (met window.Prohibited true interval long short .0, tt) .only-when k e .0 1 (lit≤ tt))

@@ -1,5 +1,5 @@
--- What catkhize_plan_message, catkhize_plan_segment and catkhize_try_from_frozen give and leave in each lent buffer: the exports' own tests,
--- then the definitions of the planner and of the frozen check. A plan comes out as a sender's plan.
+-- What catkhize_plan_message, catkhize_plan_even, catkhize_plan_segment and catkhize_try_from_frozen give and leave in each lent buffer: the
+-- exports' own tests, then the definitions of the planners and of the frozen check. A plan comes out as a sender's plan.
 use mathlib.Core.Bool.{Bool, not, cond}
 use mathlib.Core.List.{List, [], _∷_}
 use mathlib.Core.Option.{Option, none, some}
@@ -8,7 +8,7 @@ use lib.Dec.{ltb}
 use lib.ListN.{length}
 use lib.Seq.{sets}
 use Rattle.tsar.specs.Rows.{Refusal, refusal}
-use Rattle.segmentation.specs.Plan.{Planning, unsegmented, refused, segmented, planMessage}
+use Rattle.segmentation.specs.Plan.{Planning, unsegmented, refused, segmented, planMessage, evenMessage}
 use Rattle.segmentation.specs.Frozen.{Proposal, Checked, noPlan, tryFromFrozen}
 use Rattle.segmentation.specs.declared.SegmentedMessage.{SegmentedMessage}
 use Rattle.segmentation.specs.declared.FrozenMessage.{FrozenMessage}
@@ -43,9 +43,9 @@ planCall n plan = record { code = n; plan = plan; spelled = spelledBy plan }
 abbrev pub planWritten : Plan → List ℕ → PlanCall
 planWritten p plan = record { code = 0; plan = sets plan 0 (planImage p); spelled = some p }
 
--- ---- catkhize_plan_message
+-- ---- catkhize_plan_message and catkhize_plan_even
 
--- a plan of plan_message, and one that the frozen check accepted, as a sender has them
+-- a plan of a planner, and one that the frozen check accepted, as a sender has them
 abbrev pub plannedPlan : SegmentedMessage → Plan
 plannedPlan p = record { form = Planned p; frozen = noPlan }
 
@@ -62,10 +62,17 @@ planningGives (segmented p) plan = planWritten (plannedPlan p) plan
 abbrev pub messageTests : ℕ → List ℕ → List (Bool × Refusal)
 messageTests window plan = (ltb (length plan) 5958, short) ∷ (ltb 5 window, unnamed) ∷ []
 
-unfoldable pub planMessageCall : List ℕ → ℕ → ℕ → ℕ → ℕ → ℕ → List ℕ → PlanCall
+-- the tests, then what a planner answers
+unfoldable pub planningCall : Planning → ℕ → List ℕ → PlanCall
+planningCall answer window plan = unlessRefused (refusal (messageTests window plan)) (λ n. planCall n plan) (planningGives answer plan)
+
+abbrev pub planMessageCall : List ℕ → ℕ → ℕ → ℕ → ℕ → ℕ → List ℕ → PlanCall
 planMessageCall message budget transaction window version ceiling plan =
-    unlessRefused (refusal (messageTests window plan)) (λ n. planCall n plan)
-    (planningGives (planMessage (length message) budget transaction (windowOf window) version ceiling) plan)
+    planningCall (planMessage (length message) budget transaction (windowOf window) version ceiling) window plan
+
+abbrev pub planEvenCall : List ℕ → ℕ → ℕ → ℕ → ℕ → ℕ → List ℕ → PlanCall
+planEvenCall message budget transaction window version ceiling plan =
+    planningCall (evenMessage (length message) budget transaction (windowOf window) version ceiling) window plan
 
 -- ---- catkhize_plan_segment
 

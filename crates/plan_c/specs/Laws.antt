@@ -7,19 +7,17 @@ use Prim.Native.Nat.{ℕ, _≤_}
 use lib.ListN.{length}
 use lib.Seq.{sets}
 use Rattle.tsar.specs.Rows.{Refusal, refusal}
-use Rattle.tsar.specs.declared.AcknowledgmentWindow.{AcknowledgmentWindow}
 use Rattle.tsar.specs.declared.SegmentHead.{SegmentHead}
-use Rattle.segmentation.specs.Plan.{Planning, planMessage}
+use Rattle.segmentation.specs.Plan.{Planning}
 use Rattle.segmentation.specs.Frozen.{Proposal, Checked, tryFromFrozen}
 use Rattle.segmentation.specs.declared.PlannedSegment.{PlannedSegment}
 use Rattle.sender.specs.TryNew.{planSegment}
 use Rattle.sender.specs.declared.Plan.{Plan}
 use Rattle.image.specs.Spelling.{put-spells}
-use Rattle.image.specs.Cases.{windowOf}
 use Rattle.codec_c.specs.Codes.{codeOf, unlessRefused}
 use Rattle.plan_image.specs.Frozen.{headsOf}
 use Rattle.plan_image.specs.Plans.{planImage, planOf, PlanFits, plan-layout}
-use Rattle.plan_c.specs.Calls.{spelledBy, planCall, planWritten, planningGives, messageTests, planMessageCall, partCall, segmentGives, segmentTests, planSegmentCall, checkGives, frozenTests, proposal, tryFromFrozenCall}
+use Rattle.plan_c.specs.Calls.{spelledBy, planCall, planWritten, planningGives, messageTests, planningCall, partCall, segmentGives, segmentTests, planSegmentCall, checkGives, frozenTests, proposal, tryFromFrozenCall}
 
 -- ---- a plan that is written
 
@@ -35,27 +33,16 @@ writes plan i p room fits e =
     let w = spelled plan i p room fits e in
     λ k. record { code = 0; plan = e k; spelled = w k }
 
--- ---- catkhize_plan_message
+-- ---- catkhize_plan_message and catkhize_plan_even
 
-module _ (message : List ℕ) (budget transaction window version ceiling : ℕ) (plan : List ℕ) where
-  pub message-refused : (r : Refusal) → refusal (messageTests window plan) ≡ some r
-      → planCall (codeOf r) plan ≡ planMessageCall message budget transaction window version ceiling plan
-  unfolding planMessageCall
-  message-refused r e =
-      ap
-      (λ (o : Option Refusal).
-      unlessRefused o (λ n. planCall n plan) (planningGives (planMessage (length message) budget transaction (windowOf window) version ceiling) plan))
-      (sym e)
+module _ (given : Planning) (window : ℕ) (plan : List ℕ) where
+  pub planning-refused : (r : Refusal) → refusal (messageTests window plan) ≡ some r → planCall (codeOf r) plan ≡ planningCall given window plan
+  unfolding planningCall
+  planning-refused r e = ap (λ (o : Option Refusal). unlessRefused o (λ n. planCall n plan) (planningGives given plan)) (sym e)
 
-  pub message-passed : (w : AcknowledgmentWindow) → refusal (messageTests window plan) ≡ none → w ≡ windowOf window
-      → planningGives (planMessage (length message) budget transaction w version ceiling) plan ≡ planMessageCall message budget transaction window version ceiling plan
-  unfolding planMessageCall
-  message-passed w e q =
-      ap (λ (x : AcknowledgmentWindow). planningGives (planMessage (length message) budget transaction x version ceiling) plan) q
-      ∙ ap
-      (λ (o : Option Refusal).
-      unlessRefused o (λ n. planCall n plan) (planningGives (planMessage (length message) budget transaction (windowOf window) version ceiling) plan))
-      (sym e)
+  pub planning-passed : refusal (messageTests window plan) ≡ none → planningGives given plan ≡ planningCall given window plan
+  unfolding planningCall
+  planning-passed e = ap (λ (o : Option Refusal). unlessRefused o (λ n. planCall n plan) (planningGives given plan)) (sym e)
 
 -- ---- catkhize_plan_segment
 

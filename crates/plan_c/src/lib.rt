@@ -1,4 +1,4 @@
-// The exported planner and frozen check, on numbers and octet slices. A plan comes out as a sender's plan (PLAN).
+// The exported planners and frozen check, on numbers and octet slices. A plan comes out as a sender's plan (PLAN).
 use codec_c::PART_OCTETS;
 use codec_c::codes::DONE;
 use codec_c::codes::MISSPELLED;
@@ -18,6 +18,7 @@ use segmentation::MessagePlan;
 use segmentation::PlannedSegment;
 use segmentation::PlanningError;
 use segmentation::frozen::try_from_frozen;
+use segmentation::plan::plan_even;
 use segmentation::plan::plan_message;
 use sender::Plan;
 ghost use mathlib.Core.Path.{_≡_};
@@ -27,7 +28,7 @@ ghost use Rattle.segmentation.specs.Numbers.{planningNumber};
 ghost use Rattle.segmentation.specs.Plan.{plannedBy};
 ghost use Rattle.segmentation.specs.Frozen.{checkedBy};
 ghost use Rattle.codec_c.specs.Codes.{codeOf};
-ghost use Rattle.plan_c.specs.Calls.{planCall, planningGives, planMessageCall, partCall, segmentGives, planSegmentCall, checkGives, tryFromFrozenCall};
+ghost use Rattle.plan_c.specs.Calls.{planCall, planningGives, planningCall, planMessageCall, planEvenCall, partCall, segmentGives, planSegmentCall, checkGives, tryFromFrozenCall};
 
 // The last window's number.
 const LAST_WINDOW: u8 = 5;
@@ -35,7 +36,7 @@ const LAST_WINDOW: u8 = 5;
 // 256 heads.
 const HEADS_OCTETS: usize = 5888;
 
-// What a call gives that the planner or the frozen check refuses: 256 * n for document 01's refusal n, or the codec's own.
+// What a call gives that a planner or the frozen check refuses: 256 * n for document 01's refusal n, or the codec's own.
 fn planning_code(e: PlanningError) -> u32
     ensures { λ r. ⌜ r ≡ codeOf (planningNumber e) ⌝ }
 {
@@ -49,7 +50,7 @@ fn planning_code(e: PlanningError) -> u32
     }
 }
 
-// What plan_message gave: a plan is put into plan.
+// What a planner gave: a plan is put into plan.
 fn put_planning(given: MessagePlan, plan: &mut [u8]) -> u32
     requires { ⌜ 5958 ≤ length (now plan) ⌝ }
     ensures { λ r. ⌜ planCall r (now (plan .exit)) ≡ planningGives (plannedBy given) (now (plan .entry)) ⌝ }
@@ -64,6 +65,19 @@ fn put_planning(given: MessagePlan, plan: &mut [u8]) -> u32
     }
 }
 
+// The exports' own tests, and then what a planner gave.
+fn give_planning(given: MessagePlan, window: u8, plan: &mut [u8]) -> u32
+    ensures { λ r. ⌜ planCall r (now (plan .exit)) ≡ planningCall (plannedBy given) window (now (plan .entry)) ⌝ }
+{
+    if plan.len() < PLAN_OCTETS {
+        return SHORT;
+    }
+    if LAST_WINDOW < window {
+        return UNNAMED;
+    }
+    put_planning(given, plan)
+}
+
 // Plans the segments of a message. The plan is put into plan.
 pub fn catkhize_plan_message(
     message: &[u8],
@@ -76,12 +90,6 @@ pub fn catkhize_plan_message(
 ) -> u32
     ensures { λ r. ⌜ planCall r (now (plan .exit)) ≡ planMessageCall (now (message .entry)) budget transaction window version ceiling (now (plan .entry)) ⌝ }
 {
-    if plan.len() < PLAN_OCTETS {
-        return SHORT;
-    }
-    if LAST_WINDOW < window {
-        return UNNAMED;
-    }
     let given = plan_message(
         message,
         budget as usize,
@@ -90,7 +98,30 @@ pub fn catkhize_plan_message(
         version,
         ceiling as usize,
     );
-    put_planning(given, plan)
+    give_planning(given, window, plan)
+}
+
+// The same with later segments of even length.
+pub fn catkhize_plan_even(
+    message: &[u8],
+    budget: u64,
+    transaction: u8,
+    window: u8,
+    version: u8,
+    ceiling: u64,
+    plan: &mut [u8],
+) -> u32
+    ensures { λ r. ⌜ planCall r (now (plan .exit)) ≡ planEvenCall (now (message .entry)) budget transaction window version ceiling (now (plan .entry)) ⌝ }
+{
+    let given = plan_even(
+        message,
+        budget as usize,
+        transaction,
+        window_of(window),
+        version,
+        ceiling as usize,
+    );
+    give_planning(given, window, plan)
 }
 
 // Segment i, where there is one, is put into answer.

@@ -1,4 +1,4 @@
--- The layout of the record of plan_message, 43 octets: message octets, budget, transaction, window, then a row: Begin's octets, later
+-- The layout of the record of a planner, 43 octets: message octets, budget, transaction, window, then a row: Begin's octets, later
 -- capacity, count, and whether Begin states the length. Assumes nothing.
 use mathlib.Core.Path.{_≡_, refl, sym, ap, _∙_}
 use mathlib.Core.List.{List, [], _∷_, _++_}

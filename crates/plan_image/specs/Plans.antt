@@ -1,5 +1,5 @@
 -- The layout PLAN of a sender's plan, 5958 octets: the layout's version, 1, and the plan's body, 5957 octets: its form (0 planned, 1 frozen),
--- the record of plan_message, all 0 under frozen, and the record of the frozen check. Assumes nothing.
+-- the record of a planner, all 0 under frozen, and the record of the frozen check. Assumes nothing.
 use mathlib.Core.Path.{_≡_, refl, ap}
 use mathlib.Core.Bool.{Bool, true, false, cond, _&&_}
 use mathlib.Core.List.{List, [], _∷_, _++_}

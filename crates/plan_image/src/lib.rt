@@ -126,7 +126,7 @@ fn read_row(l: &[u8], at: usize) -> Row
     }
 }
 
-// The record of plan_message.
+// The record of a planner.
 
 fn capacities(p: SegmentedMessage) -> Row
     ensures { λ r. ⌜ r ≡ capacities p ⌝ }
@@ -166,7 +166,7 @@ fn planned_from(octets: u64, budget: u64, transaction: u8, window: u8, r: Row) -
     }
 }
 
-// The record of plan_message that stands at a place.
+// The record of a planner that stands at a place.
 fn read_planned(l: &[u8], at: usize) -> SegmentedMessage
     requires { ⌜ at + 43 ≤ length (now l) ⌝ }
     ensures { λ r. ⌜ r ≡ plannedOf (drop at (now (l .entry))) ⌝ }

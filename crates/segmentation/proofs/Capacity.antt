@@ -1,4 +1,4 @@
--- What the planner's code asks: that its sums fit, and planMessage as the code goes through it. Assumes nothing.
+-- What plan_message's code asks: that its sums fit, and planMessage as the code goes through it. Assumes nothing.
 use Prim.Native.Nat.{ℕ, _+_, _-_, _/_, _≤_, _<_}
 use mathlib.Core.Path.{_≡_, refl, ap, sym, _∙_}
 use mathlib.Core.Bool.{Bool, true, false, cond}

@@ -18,8 +18,8 @@ use Rattle.tsar.proofs.Counts.{written-count, wrote-count, wrote-all}
 use Rattle.segmentation.specs.declared.SegmentedMessage.{SegmentedMessage}
 use Rattle.segmentation.specs.declared.PlannedPart.{PlannedPart}
 use Rattle.segmentation.specs.declared.PlannedSegment.the-variants.{Segment as Planned}
-use Rattle.segmentation.specs.Plan.{planMessage, segmented, plannedHead, plannedWhole, partStart, partLength, segmentAt}
-use Rattle.segmentation.specs.Planned.{plan-budget, plan-codec, plan-range, plan-segment}
+use Rattle.segmentation.specs.Plan.{segmented, plannedHead, plannedWhole, partStart, partLength, segmentAt}
+use Rattle.segmentation.specs.Planned.{Spread, planning, plan-budget, plan-codec, plan-range, plan-segment}
 use Rattle.segmentation.specs.Frozen.{Proposal, frozenRefusal, frozenOf, frozenSegmentAt, proposed, headAt, dataBefore}
 use Rattle.segmentation.specs.Accepted.{frozen-acceptable, frozen-segment, cut-within}
 
@@ -59,31 +59,31 @@ part-writes budget x h v message out c within room =
     ∙ refusal-pass ((ltb (length out) (length (written (whole (x .head .segment) d))), (61, 0)) ∷ []) (f, tt))
     ∙ ap (λ (k : ℕ). wrote (headerOctets (x .head .segment .kind) + k)) m
 
--- ---- a plan that plan_message gives
+-- ---- a plan that a planner gives
 
-module _ (n budget transaction : ℕ) (w : AcknowledgmentWindow) (version ceiling : ℕ) (p : SegmentedMessage) (ok : planMessage n budget transaction w version ceiling ≡ segmented p) where
+module _ (x : Spread) (n budget transaction : ℕ) (w : AcknowledgmentWindow) (version ceiling : ℕ) (p : SegmentedMessage) (ok : planning x n budget transaction w version ceiling ≡ segmented p) where
   abbrev plannedPart : ℕ → PlannedPart
   plannedPart i = record { head = plannedHead p i; offset = partStart p i }
 
   planned-within : (i : ℕ) → Within budget (plannedPart i)
-  planned-within = plan-budget n budget transaction w version ceiling p ok
+  planned-within = plan-budget x n budget transaction w version ceiling p ok
 
   -- what is written of each segment
   pub plan-encoded : (message : List ℕ) (i : ℕ) → length (written (plannedWhole p message i)) ≤ budget
   plan-encoded message i = part-written budget (plannedPart i) (planned-within i) message
 
   -- what writing each segment answers
-  pub plan-wrote : (i : ℕ) → i < p .count → (x : PlannedPart) → segmentAt p i ≡ Planned x → (v : ℕ) (message out : List ℕ) (k : ℕ) → encodedPart v x message out ≡ wrote k → k ≤ budget
-  plan-wrote i h x e =
-      let f : Planned (plannedPart i) ≡ Planned x = sym (plan-segment n budget transaction w version ceiling p ok i h) ∙ e in
-      let g : plannedPart i ≡ x = cc in
-      part-wrote budget x (subst (Within budget) g (planned-within i))
+  pub plan-wrote : (i : ℕ) → i < p .count → (y : PlannedPart) → segmentAt p i ≡ Planned y → (v : ℕ) (message out : List ℕ) (k : ℕ) → encodedPart v y message out ≡ wrote k → k ≤ budget
+  plan-wrote i h y e =
+      let f : Planned (plannedPart i) ≡ Planned y = sym (plan-segment x n budget transaction w version ceiling p ok i h) ∙ e in
+      let g : plannedPart i ≡ y = cc in
+      part-wrote budget y (subst (Within budget) g (planned-within i))
 
   -- each is given, and is written under the plan's version into an output with room for the budget
   pub plan-writes : (message out : List ℕ) → length message ≡ n → budget ≤ length out
-      → (i : ℕ) → i < p .count → (x : PlannedPart) × (k : ℕ) × (segmentAt p i ≡ Planned x) × (encodedPart version x message out ≡ wrote k) × (k ≤ budget)
+      → (i : ℕ) → i < p .count → (y : PlannedPart) × (k : ℕ) × (segmentAt p i ≡ Planned y) × (encodedPart version y message out ≡ wrote k) × (k ≤ budget)
   plan-writes message out e room i h =
-      (plannedPart i, headerOctets (plannedHead p i .segment .kind) + partLength p i, plan-segment n budget transaction w version ceiling p ok i h, part-writes budget (plannedPart i) (planned-within i) version message out (plan-codec n budget transaction w version ceiling p ok i) (omega (arith, plan-range n budget transaction w version ceiling p ok i h)) room, planned-within i)
+      (plannedPart i, headerOctets (plannedHead p i .segment .kind) + partLength p i, plan-segment x n budget transaction w version ceiling p ok i h, part-writes budget (plannedPart i) (planned-within i) version message out (plan-codec x n budget transaction w version ceiling p ok i) (omega (arith, plan-range x n budget transaction w version ceiling p ok i h)) room, planned-within i)
 
 -- ---- a train that the frozen check accepts
 

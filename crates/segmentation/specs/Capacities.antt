@@ -1,9 +1,11 @@
 -- A plan's record whose capacities and count fit together: where its parts begin and end, and of what kinds its segments are. Assumes nothing.
-use Prim.Native.Nat.{ℕ, zero, suc, _+_, _-_, _*_, _≤_, _<_}
+use Prim.Native.Nat.{ℕ, zero, suc, _+_, _-_, _*_, _/_, _%_, _≤_, _<_, min}
 use mathlib.Core.Path.{_≡_, refl, sym, ap, _∙_}
 use mathlib.Core.List.{List}
 use mathlib.Core.Bool.{Bool, true, false, cond, not, _&&_}
+use mathlib.Core.Logic.{_⊎_, inl, inr, ⊎-elim}
 use native.Mathlib.Omega.{arith}
+use Rattle.octets.specs.Laws.{le-or-lt}
 use native.Mathlib.Nat.{div-add-mod', mod-lt, le-div-iff-mul-le}
 use lib.ListN.{length, take, drop}
 use lib.Dec.{eqb, leb}
@@ -17,62 +19,76 @@ use Rattle.tsar.specs.declared.MessageCrc.the-variants as crc
 use Rattle.tsar.specs.declared.SegmentKind.{SegmentKind}
 use Rattle.tsar.specs.declared.SegmentKind.the-variants as kind'
 use Rattle.segmentation.specs.declared.SegmentedMessage.{SegmentedMessage}
-use Rattle.segmentation.specs.Plan.{prohibited, roundedUp, servicesFor, plannedLength, plannedKind, partStart, partLength, hasSegment}
+use Rattle.segmentation.specs.Plan.{prohibited, roundedUp, servicesFor, plannedLength, plannedKind, longer, partStart, partCapacity, partLength, hasSegment}
 use Rattle.segmentation.specs.Cutting.{joinTo, isContinue, isEnd, plainKind, statesOther}
 use Rattle.segmentation.specs.Joined.{parts-whole}
 
 -- ---- a number rounded up
 
-up-covers : (n d : ℕ) → 0 < d → n ≤ roundedUp n d * d
+pub up-covers : (n d : ℕ) → 0 < d → n ≤ roundedUp n d * d
 up-covers n d h = omega (arith, div-add-mod' (n + (d - 1)) d, mod-lt (n + (d - 1)) h)
 
-up-some : (n d : ℕ) → 0 < d → 0 < n → 1 ≤ roundedUp n d
+pub up-some : (n d : ℕ) → 0 < d → 0 < n → 1 ≤ roundedUp n d
 up-some n d h k = le-div-iff-mul-le h .1 (omega arith)
 
 -- what lies below the number rounded up is not past n
-up-least : (n d i : ℕ) → 0 < d → i < roundedUp n d → i * d < n
+pub up-least : (n d i : ℕ) → 0 < d → i < roundedUp n d → i * d < n
 up-least n d i h k = let e : suc i * d ≤ n + (d - 1) = le-div-iff-mul-le h .0 k in omega arith
 
 -- ---- a plan's record: what its capacities and its count have to do with each other
 
 pub record Capacities (p : SegmentedMessage) : Type 0 where
   pub begin-short : p .«begin_octets» ≤ 255
-  pub later-short : p .«later_capacity» ≤ 255
-  pub later-some : 0 < p .«later_capacity»
+  pub later-short : p .«later_capacity» + min 1 (longer p) ≤ 255
   pub begin-below : p .«begin_octets» < p .«message_octets»
-  pub counted : p .count ≡ suc (roundedUp (p .«message_octets» - p .«begin_octets») (p .«later_capacity»))
+  pub several : 2 ≤ p .count
   pub few : p .count ≤ 256
+  pub longer-few : longer p < p .count
+  pub starts : (i : ℕ) → suc i < p .count → partStart p (suc i) < p .«message_octets»
   pub begin-fits : headerOctets (plannedKind p 0) + p .«begin_octets» ≤ p .«payload_budget_octets»
-  pub later-fits : 3 + p .«later_capacity» ≤ p .«payload_budget_octets»
+  pub later-fits : 3 + (p .«later_capacity» + min 1 (longer p)) ≤ p .«payload_budget_octets»
+
+one-more : (i n : ℕ) → min (suc i) n ≡ min i n + min 1 (n - i)
+one-more i n = omega arith
+
+pub whole-part : (at k n : ℕ) → at + k ≤ n → min k (n - at) ≡ k
+whole-part at k n h = omega arith
 
 module _ (p : SegmentedMessage) (sound : Capacities p) where
-  pub several : 2 ≤ p .count
-  several = omega (arith, up-some (p .«message_octets» - p .«begin_octets») (p .«later_capacity») (sound .later-some) (omega arith))
-
-  -- every part but the first begins within the message
-  starts : (i : ℕ) → suc i < p .count → partStart p (suc i) < p .«message_octets»
-  starts i h =
-      omega (arith, up-least (p .«message_octets» - p .«begin_octets») (p .«later_capacity») i (sound .later-some) (omega arith))
+  -- what the capacities leave of the message: nothing, or that many octets
+  left-over : (k : ℕ) → suc k ≡ p .count → ((longer p ≡ 0) × (p .«message_octets» ≤ p .«begin_octets» + k * p .«later_capacity»)) ⊎ (p .«message_octets» ≡ p .«begin_octets» + k * p .«later_capacity» + longer p)
+  unfolding longer
+  left-over k h =
+      let e : p .count - 1 ≡ k = omega arith in
+      let f : (p .count - 1) * p .«later_capacity» ≡ k * p .«later_capacity» = ap (λ (j : ℕ). j * p .«later_capacity») e in
+      ⊎-elim (λ (l : p .«message_octets» ≤ p .«begin_octets» + k * p .«later_capacity»). inl (omega (arith, f), l))
+      (λ (l : p .«begin_octets» + k * p .«later_capacity» < p .«message_octets»). inr (omega (arith, f)))
+      (le-or-lt (p .«message_octets») (p .«begin_octets» + k * p .«later_capacity»))
 
   pub part-within : (i : ℕ) → i < p .count → partStart p i + partLength p i ≤ p .«message_octets»
   part-within zero h = omega arith
-  part-within (suc i) h = omega (arith, starts i h)
+  part-within (suc i) h = omega (arith, sound .starts i h)
 
   -- each part but the last is as long as it may be
   pub next-start : (i : ℕ) → suc i < p .count → partStart p (suc i) ≡ partStart p i + partLength p i
   next-start zero h = omega (arith, sound .begin-below)
-  next-start (suc i) h = omega (arith, starts (suc i) h)
+  next-start (suc i) h =
+      let e = one-more i (longer p) in
+      let f : partStart p (suc (suc i)) ≡ partStart p (suc i) + partCapacity p (suc i) = omega (arith, e) in
+      f ∙ sym (ap (λ (k : ℕ). partStart p (suc i) + k) (whole-part (partStart p (suc i)) (partCapacity p (suc i)) (p .«message_octets») (omega (arith, f, sound .starts (suc i) h))))
 
   -- the last part ends where the message does
   pub last-end : (i : ℕ) → suc (suc i) ≡ p .count → partStart p (suc i) + partLength p (suc i) ≡ p .«message_octets»
   last-end i h =
-      let c = up-covers (p .«message_octets» - p .«begin_octets») (p .«later_capacity») (sound .later-some) in
-      let e : roundedUp (p .«message_octets» - p .«begin_octets») (p .«later_capacity») ≡ suc i = omega arith in
-      let m : p .«message_octets» - p .«begin_octets» ≤ suc i * p .«later_capacity» = rw e at c in
-      omega (arith, starts i (omega arith))
+      ⊎-elim
+      (λ (l : (longer p ≡ 0) × (p .«message_octets» ≤ p .«begin_octets» + suc i * p .«later_capacity»)).
+      omega (arith, l .0, l .1, sound .starts i (omega arith)))
+      (λ (l : p .«message_octets» ≡ p .«begin_octets» + suc i * p .«later_capacity» + longer p).
+      omega (arith, l, sound .longer-few))
+      (left-over (suc i) h)
 
   pub parts-make : (message : List ℕ) → length message ≡ p .«message_octets» → joinTo (p .count) (λ i. take (partLength p i) (drop (partStart p i) message)) ≡ message
-  parts-make message e = go (p .count - 2) (omega (arith, several))
+  parts-make message e = go (p .count - 2) (omega (arith, sound .several))
     where
       go : (k : ℕ) → p .count ≡ suc (suc k) → joinTo (p .count) (λ i. take (partLength p i) (drop (partStart p i) message)) ≡ message
       go k h =
@@ -86,16 +102,19 @@ module _ (p : SegmentedMessage) (sound : Capacities p) where
   later-continues (suc i) h l = rw (ne-eqb (suc (suc i)) (p .count) (λ e. omega arith))
 
   pub last-ends : (i : ℕ) → suc i ≡ p .count → isEnd (plannedKind p i) ≡ true
-  last-ends zero h = absurd (omega (arith, several))
+  last-ends zero h = absurd (omega (arith, sound .several))
   last-ends (suc i) h = rw (eq-eqb (suc (suc i)) (p .count) h)
+
+  begins-within : (i : ℕ) → i < p .count → partStart p i ≤ p .«message_octets»
+  begins-within i h = omega (arith, part-within i h)
 
   pub has-segment : (i : ℕ) → i < p .count → hasSegment p i ≡ true
   has-segment i h =
-      simp (lt-ltb i (p .count) h, le-leb i 255 (omega arith), le-leb (p .«begin_octets») 255 (sound .begin-short), le-leb (p .«later_capacity») 255 (sound .later-short), le-leb (partStart p i) (p .«message_octets») (omega (arith, part-within i h)))
+      simp (lt-ltb i (p .count) h, le-leb (p .count) 256 (sound .few), le-leb (p .«begin_octets») 255 (sound .begin-short), le-leb (p .«later_capacity» + min 1 (longer p)) 255 (sound .later-short), le-leb (partStart p i) (p .«message_octets») (begins-within i h))
 
   pub part-short : (i : ℕ) → partLength p i ≤ 255
-  part-short zero = omega arith
-  part-short (suc i) = omega arith
+  part-short zero = omega (arith, sound .begin-short)
+  part-short (suc i) = omega (arith, sound .later-short)
 
 -- ---- the kinds of any plan's record
 

@@ -1,4 +1,4 @@
--- A plan of plan_message passes the frozen check: its heads, the message as the joined data, the same budget, version and ceiling. Assumes nothing.
+-- A plan of either planner passes the frozen check: its heads, the message as the joined data, the same budget, version and ceiling. Assumes nothing.
 use Prim.Native.Nat.{ℕ, zero, suc, _+_, _-_, _≤_, _<_}
 use mathlib.Core.Path.{_≡_, refl, sym, ap, _∙_, subst}
 use mathlib.Core.List.{List, [], _∷_, _++_}
@@ -12,10 +12,10 @@ use Rattle.tsar.specs.Layout.{whole}
 use Rattle.tsar.specs.declared.AcknowledgmentWindow.{AcknowledgmentWindow}
 use Rattle.tsar.specs.declared.SegmentHead.{SegmentHead}
 use Rattle.segmentation.specs.declared.SegmentedMessage.{SegmentedMessage}
-use Rattle.segmentation.specs.Plan.{planMessage, segmented, plannedHead, plannedWhole, partStart, partLength}
+use Rattle.segmentation.specs.Plan.{segmented, plannedHead, plannedWhole, partStart, partLength}
 use Rattle.segmentation.specs.Cutting.{Cutting}
 use Rattle.segmentation.specs.Frozen.{Proposal, proposed, noHead, headAt, dataBefore, frozenRefusal}
-use Rattle.segmentation.specs.Planned.{plan-arguments, plan-at-least, plan-transaction, plan-next, plan-last, plan-codec, plan-budget, plan-cutting}
+use Rattle.segmentation.specs.Planned.{Spread, planning, plan-arguments, plan-at-least, plan-transaction, plan-next, plan-last, plan-codec, plan-budget, plan-cutting}
 use Rattle.segmentation.specs.Joined.{cutting-cong}
 use Rattle.segmentation.specs.Accepted.{cutting-accepted}
 
@@ -60,7 +60,7 @@ pub planned-heads-length : (p : SegmentedMessage) → p .count ≤ 256 → lengt
 planned-heads-length p h =
     omega (arith, length-append (headsTo p (p .count)) (replicate (256 - p .count) noHead), length-heads p (p .count), length-replicate (256 - p .count) noHead)
 
-module _ (n budget transaction : ℕ) (w : AcknowledgmentWindow) (version ceiling : ℕ) (p : SegmentedMessage) (ok : planMessage n budget transaction w version ceiling ≡ segmented p) (heads : List SegmentHead) (agrees : (i : ℕ) → i < p .count → headAt heads i ≡ plannedHead p i) where
+module _ (x : Spread) (n budget transaction : ℕ) (w : AcknowledgmentWindow) (version ceiling : ℕ) (p : SegmentedMessage) (ok : planning x n budget transaction w version ceiling ≡ segmented p) (heads : List SegmentHead) (agrees : (i : ℕ) → i < p .count → headAt heads i ≡ plannedHead p i) where
   head-length : (i : ℕ) → i < p .count → headAt heads i .«segment_data_length» ≡ partLength p i
   head-length i h = ap (λ (x : SegmentHead). x .«segment_data_length») (agrees i h)
 
@@ -68,12 +68,12 @@ module _ (n budget transaction : ℕ) (w : AcknowledgmentWindow) (version ceilin
   unfolding dataBefore
   before-start zero h = refl
   before-start (suc i) h =
-      omega (arith, before-start i (omega arith), head-length i (omega arith), plan-next n budget transaction w version ceiling p ok i h)
+      omega (arith, before-start i (omega arith), head-length i (omega arith), plan-next x n budget transaction w version ceiling p ok i h)
 
   before-end : (k : ℕ) → suc k ≡ p .count → dataBefore heads (suc k) ≡ n
   unfolding dataBefore
   before-end k h =
-      omega (arith, before-start k (omega arith), head-length k (omega arith), plan-last n budget transaction w version ceiling p ok k h)
+      omega (arith, before-start k (omega arith), head-length k (omega arith), plan-last x n budget transaction w version ceiling p ok k h)
 
   sums-up : (k : ℕ) → suc k ≡ p .count → dataBefore heads (p .count) ≡ n
   sums-up k h = ap (dataBefore heads) (sym h) ∙ before-end k h
@@ -85,23 +85,23 @@ module _ (n budget transaction : ℕ) (w : AcknowledgmentWindow) (version ceilin
 
   one-transaction : transaction ≡ headAt heads 0 .segment .«transaction_id»
   one-transaction =
-      sym (plan-transaction n budget transaction w version ceiling p ok)
-      ∙ ap (λ (x : SegmentHead). x .segment .«transaction_id») (sym (agrees 0 (omega (arith, plan-at-least n budget transaction w version ceiling p ok))))
+      sym (plan-transaction x n budget transaction w version ceiling p ok)
+      ∙ ap (λ (x : SegmentHead). x .segment .«transaction_id») (sym (agrees 0 (omega (arith, plan-at-least x n budget transaction w version ceiling p ok))))
 
   -- heads that are a plan's below the count pass the frozen check, whatever stands past it
   pub plan-heads-frozen : (message : List ℕ) → length message ≡ n → frozenRefusal (proposalOf p heads message budget version ceiling) ≡ none
   plan-heads-frozen message e =
       cutting-accepted (proposalOf p heads message budget version ceiling)
       (record {
-        within-ceiling = plan-arguments n budget transaction w version ceiling p ok .within-ceiling;
-        sums = e ∙ sym (sums-up (p .count - 1) (omega (arith, plan-at-least n budget transaction w version ceiling p ok)));
+        within-ceiling = plan-arguments x n budget transaction w version ceiling p ok .within-ceiling;
+        sums = e ∙ sym (sums-up (p .count - 1) (omega (arith, plan-at-least x n budget transaction w version ceiling p ok)));
         cutting = subst (λ (t : ℕ). Cutting message t (p .count) (proposed (proposalOf p heads message budget version ceiling))) one-transaction
-            (cutting-cong (proposed (proposalOf p heads message budget version ceiling)) (same-whole message) (plan-cutting n budget transaction w version ceiling p ok message e));
-        codec = λ i h. rw (agrees i h) (plan-codec n budget transaction w version ceiling p ok i);
-        fits = λ i h. rw (agrees i h) (plan-budget n budget transaction w version ceiling p ok i);
+            (cutting-cong (proposed (proposalOf p heads message budget version ceiling)) (same-whole message) (plan-cutting x n budget transaction w version ceiling p ok message e));
+        codec = λ i h. rw (agrees i h) (plan-codec x n budget transaction w version ceiling p ok i);
+        fits = λ i h. rw (agrees i h) (plan-budget x n budget transaction w version ceiling p ok i);
       })
 
--- what plan_message gives passes the frozen check
-pub plan-frozen : (n budget transaction : ℕ) (w : AcknowledgmentWindow) (version ceiling : ℕ) (p : SegmentedMessage) → planMessage n budget transaction w version ceiling ≡ segmented p → (message : List ℕ) → length message ≡ n → frozenRefusal (proposalOf p (plannedHeads p) message budget version ceiling) ≡ none
-plan-frozen n budget transaction w version ceiling p ok message e =
-    plan-heads-frozen n budget transaction w version ceiling p ok (plannedHeads p) (planned-head p) message e
+-- what a planner gives passes the frozen check
+pub plan-frozen : (x : Spread) (n budget transaction : ℕ) (w : AcknowledgmentWindow) (version ceiling : ℕ) (p : SegmentedMessage) → planning x n budget transaction w version ceiling ≡ segmented p → (message : List ℕ) → length message ≡ n → frozenRefusal (proposalOf p (plannedHeads p) message budget version ceiling) ≡ none
+plan-frozen x n budget transaction w version ceiling p ok message e =
+    plan-heads-frozen x n budget transaction w version ceiling p ok (plannedHeads p) (planned-head p) message e

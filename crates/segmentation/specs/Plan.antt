@@ -1,5 +1,6 @@
--- What plan_message answers: document 01's formulas, 'Port order' 2, its refusals in order, and segment i of a plan.
-use Prim.Native.Nat.{ℕ, zero, suc, _+_, _-_, _*_, _/_, _≤_, min}
+-- What plan_message answers: document 01's formulas, 'Port order' 2, and its refusals in order; what the even planner answers: document 02, 2026-02;
+-- and segment i of a plan of either.
+use Prim.Native.Nat.{ℕ, zero, suc, _+_, _-_, _*_, _/_, _≤_, _<_, min}
 use mathlib.Core.List.{List, [], _∷_, _++_, map}
 use mathlib.Core.Bool.{Bool, true, false, cond, not, _&&_}
 use mathlib.Core.Option.{Option, none, some}
@@ -117,23 +118,55 @@ unfoldable pub planMessage : ℕ → ℕ → ℕ → AcknowledgmentWindow → �
 planMessage n budget transaction w version ceiling =
     firstOf (planRows n budget transaction w version ceiling) (segmented (planOf n budget transaction w))
 
--- what plan_message's answer says
+-- ---- the even planner: the plan that plan_message gives, spread
+
+-- what each later segment has at least: the octets behind Begin's, shared among them
+unfoldable pub shareOf : SegmentedMessage → ℕ
+shareOf p = (p .«message_octets» - p .«begin_octets») / (p .count - 1)
+
+-- the same Begin and the same count, each later segment with its share; what is left over goes to the first of them (`longer`, below)
+unfoldable pub evened : SegmentedMessage → SegmentedMessage
+evened p =
+    record {
+      «message_octets» = p .«message_octets»;
+      «payload_budget_octets» = p .«payload_budget_octets»;
+      «transaction_id» = p .«transaction_id»;
+      «acknowledgment_window» = p .«acknowledgment_window»;
+      «begin_octets» = p .«begin_octets»;
+      «later_capacity» = shareOf p;
+      count = p .count;
+      «states_length» = p .«states_length»;
+    }
+
+abbrev pub spread : Planning → Planning
+spread unsegmented = unsegmented
+spread (refused r) = refused r
+spread (segmented p) = segmented (evened p)
+
+abbrev pub evenMessage : ℕ → ℕ → ℕ → AcknowledgmentWindow → ℕ → ℕ → Planning
+evenMessage n budget transaction w version ceiling = spread (planMessage n budget transaction w version ceiling)
+
+-- what a planner's answer says
 abbrev pub plannedBy : MessagePlan → Planning
 plannedBy plan'.Unsegmented = unsegmented
 plannedBy (plan'.Segmented p) = segmented p
 plannedBy (plan'.Refused e) = refused (planningNumber e)
 
--- ---- segment i of a plan, for any record and any i
+-- ---- segment i of a plan of either planner, for any record and any i
+
+-- how many later segments have one octet more, the first of them: what the capacities leave of the message. None in a plan of plan_message
+unfoldable pub longer : SegmentedMessage → ℕ
+longer p = p .«message_octets» - p .«begin_octets» - (p .count - 1) * p .«later_capacity»
 
 -- where its data begin
 abbrev pub partStart : SegmentedMessage → ℕ → ℕ
 partStart p zero = 0
-partStart p (suc i) = p .«begin_octets» + i * p .«later_capacity»
+partStart p (suc i) = p .«begin_octets» + i * p .«later_capacity» + min i (longer p)
 
 -- how many octets it may have
 abbrev pub partCapacity : SegmentedMessage → ℕ → ℕ
 partCapacity p zero = p .«begin_octets»
-partCapacity p (suc i) = p .«later_capacity»
+partCapacity p (suc i) = p .«later_capacity» + min 1 (longer p - i)
 
 -- how many it has: as far as the message goes
 abbrev pub partLength : SegmentedMessage → ℕ → ℕ
@@ -154,15 +187,25 @@ plannedHead p i =
       «segment_data_length» = partLength p i;
     }
 
--- a record has segment i when i is below its count, its capacities are those of segments, and the segment begins within the message
+-- a record has segment i when i is below its count, its count and its capacities are those of segments, and the segment begins within the message
 abbrev pub hasSegment : SegmentedMessage → ℕ → Bool
-hasSegment p i = ltb i (p .count) && leb i 255 && leb (p .«begin_octets») 255 && leb (p .«later_capacity») 255 && leb (partStart p i) (p .«message_octets»)
+hasSegment p i =
+    ltb i (p .count)
+    && leb (p .count) 256
+    && leb (p .«begin_octets») 255
+    && leb (p .«later_capacity» + min 1 (longer p)) 255
+    && leb (partStart p i) (p .«message_octets»)
 
 -- what the tests of hasSegment leave, for the code's sums
-pub record SegmentSized (p : SegmentedMessage) (i : ℕ) : Type 0 where
-  pub numbered : i ≤ 255
+pub record Sized (p : SegmentedMessage) : Type 0 where
+  pub counted : p .count ≤ 256
+  pub some : 0 < p .count
   pub begin-sized : p .«begin_octets» ≤ 255
   pub later-sized : p .«later_capacity» ≤ 255
+
+pub record SegmentSized (p : SegmentedMessage) (i : ℕ) : Type 0 where
+  pub numbered : i ≤ 255
+  pub sized : Sized p
 
 unfoldable pub segmentAt : SegmentedMessage → ℕ → PlannedSegment
 segmentAt p i = cond (hasSegment p i) (Planned (record { head = plannedHead p i; offset = partStart p i })) NoSegment

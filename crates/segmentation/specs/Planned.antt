@@ -1,11 +1,14 @@
--- What holds of every plan that plan_message gives: its segments are a true cutting of the message, each is one that the codec writes under the
--- plan's version, and each is within the budget. Assumes nothing.
-use Prim.Native.Nat.{ℕ, zero, suc, _+_, _≤_, _<_}
+-- What holds of every plan that a planner gives, plan_message or the even one: its segments are a true cutting of the message, each is one that the
+-- codec writes under the plan's version, and each is within the budget. Assumes nothing.
+use Prim.Native.Nat.{ℕ, zero, suc, _+_, _-_, _*_, _/_, _%_, _≤_, _<_, min}
 use mathlib.Core.Path.{_≡_, refl, sym, ap, _∙_, subst}
 use mathlib.Core.List.{List, [], _∷_}
 use mathlib.Core.Bool.{Bool, true, false, cond, not, _&&_, true≢false}
 use mathlib.Core.Option.{none}
+use mathlib.Core.Logic.{⊎-elim}
 use native.Mathlib.Omega.{arith}
+use native.Mathlib.Nat.{div-add-mod, mod-lt, div-le-of-le-mul, le-div-iff-mul-le, mul-le-mul-left, mul-le-mul-right}
+use Rattle.octets.specs.Laws.{le-or-lt}
 use lib.ListN.{length, length-take}
 use lib.Dec.{leb, ltb}
 use borrow.Author.Tests.{ltb-true, ltb-false, leb-false, le-ltb, lt-leb}
@@ -15,9 +18,26 @@ use Rattle.tsar.specs.declared.AcknowledgmentWindow.{AcknowledgmentWindow}
 use Rattle.tsar.specs.declared.MessageLength.the-variants as len
 use Rattle.segmentation.specs.declared.SegmentedMessage.{SegmentedMessage}
 use Rattle.segmentation.specs.declared.PlannedSegment.the-variants.{Segment as Planned}
-use Rattle.segmentation.specs.Plan.{Planning, unsegmented, refused, segmented, planMessage, planRows, planOf, prohibited, bareOctets, beginHeader, segmentCount, servicesFor, plannedKind, plannedHead, partStart, partLength, hasSegment, segmentAt, plannedWhole}
+use Rattle.segmentation.specs.Plan.{Planning, unsegmented, refused, segmented, planMessage, evenMessage, planRows, planOf, shareOf, evened, spread, longer, roundedUp, beginData, laterCapacity, prohibited, bareOctets, beginHeader, segmentCount, servicesFor, plannedKind, plannedHead, partStart, partLength, hasSegment, segmentAt, plannedWhole}
 use Rattle.segmentation.specs.Cutting.{Cutting}
-use Rattle.segmentation.specs.Capacities.{Capacities, several, part-within, part-short, next-start, last-end, parts-make, later-continues, last-ends, kind-plain, kind-states, kind-length, kind-crc, kind-first, later-header, has-segment}
+use Rattle.segmentation.specs.Capacities.{Capacities, up-covers, up-some, up-least, part-within, part-short, next-start, last-end, parts-make, later-continues, last-ends, kind-plain, kind-states, kind-length, kind-crc, kind-first, later-header, has-segment}
+
+-- ---- the two planners, for laws of both
+
+pub data Spread : Type 0 where
+  full : Spread
+  even : Spread
+
+abbrev pub planning : Spread → ℕ → ℕ → ℕ → AcknowledgmentWindow → ℕ → ℕ → Planning
+planning full = planMessage
+planning even = evenMessage
+
+abbrev pub evenOf : ℕ → ℕ → ℕ → AcknowledgmentWindow → SegmentedMessage
+evenOf n budget transaction w = evened (planOf n budget transaction w)
+
+abbrev pub planAs : Spread → ℕ → ℕ → ℕ → AcknowledgmentWindow → SegmentedMessage
+planAs full = planOf
+planAs even = evenOf
 
 -- ---- what planMessage's rows leave
 
@@ -25,6 +45,11 @@ abbrev isSegmented : Planning → Bool
 isSegmented unsegmented = false
 isSegmented (refused r) = false
 isSegmented (segmented p) = true
+
+spread-segmented : (r : Planning) → isSegmented (spread r) ≡ isSegmented r
+spread-segmented unsegmented = refl
+spread-segmented (refused r) = refl
+spread-segmented (segmented p) = refl
 
 -- rows none of which plans segments
 abbrev noneSegmented : List (Bool × Planning) → Bool
@@ -44,11 +69,6 @@ none-holds : (cs : List (Bool × Planning)) (d : Planning) → noneSegmented cs 
 none-holds [] d o e n = refl
 none-holds (c ∷ cs) d o e zero = one-passed (c .0) (c .1) cs d o e .0
 none-holds (c ∷ cs) d o e (suc n) = let h = one-passed (c .0) (c .1) cs d o e in none-holds cs d (h .1) (h .2) n
-
--- and it is the plan behind them
-all-passed : (cs : List (Bool × Planning)) (d : Planning) → ((n : ℕ) → test cs n ≡ false) → firstOf cs d ≡ d
-all-passed [] d h = refl
-all-passed (c ∷ cs) d h = rw (h 0) (all-passed cs d (λ n. h (suc n)))
 
 -- ---- the plan of a message
 
@@ -84,21 +104,162 @@ pub record Plannable (n budget transaction : ℕ) (w : AcknowledgmentWindow) (ve
   pub later-room : 3 < budget
   pub not-many : segmentCount n budget (prohibited w) ≤ 256
 
--- with such arguments the plan is sound
-plan-sound : (n budget transaction : ℕ) (w : AcknowledgmentWindow) (version ceiling : ℕ) → Plannable n budget transaction w version ceiling → Capacities (planOf n budget transaction w)
-unfolding planOf segmentCount
-plan-sound n budget transaction w version ceiling f =
-    let h = header-within n budget (prohibited w) (f .begin-room) in
-    record {
-      begin-short = omega arith;
-      later-short = omega arith;
-      later-some = omega arith;
-      begin-below = omega arith;
-      counted = omega arith;
-      few = f .not-many;
-      begin-fits = omega (arith, begin-header n budget transaction w);
-      later-fits = omega arith;
-    }
+-- ---- sums and differences
+
+sub-zero : (a b : ℕ) → a ≤ b → a - b ≡ 0
+sub-zero a b h = omega arith
+
+several-later : (c : ℕ) → 1 ≤ c - 1 → 2 ≤ c
+several-later c h = omega arith
+
+positive : (c : ℕ) → 1 ≤ c - 1 → 0 < c
+positive c h = omega arith
+
+below-later : (i c : ℕ) → suc i < c → i < c - 1
+below-later i c h = omega arith
+
+full-starts : (b x i n : ℕ) → x < n - b → b + x + min i 0 < n
+full-starts b x i n h = omega arith
+
+one-short : (s o c : ℕ) → suc s ≤ c → s + min 1 o ≤ c
+one-short s o c h = omega arith
+
+same-share : (s c : ℕ) → s ≤ c → c < suc s → s ≡ c
+same-share s c h k = omega arith
+
+none-over : (s o c x y r : ℕ) → s ≤ c → x ≡ y → x + o ≡ r → r ≤ y → s + min 1 o ≤ c
+none-over s o c x y r h e f g = omega arith
+
+enough : (m x r : ℕ) → 1 ≤ m → (m - 1) * 1 ≤ x → x < r → 1 * m ≤ r
+enough m x r h k l = omega arith
+
+one-less : (m : ℕ) → 1 ≤ m → m - 1 < m
+one-less m h = omega arith
+
+left-is : (r x o : ℕ) → x + o ≡ r → r - x ≡ o
+left-is r x o e = omega arith
+
+short-share : (s budget : ℕ) → s ≤ min 255 (budget - 3) → s ≤ 255
+short-share s budget h = omega arith
+
+fit-share : (s budget : ℕ) → 3 < budget → s ≤ min 255 (budget - 3) → 3 + s ≤ budget
+fit-share s budget k h = omega arith
+
+few-over : (o c : ℕ) → o < c - 1 → o < c
+few-over o c h = omega arith
+
+even-starts : (b n i s o y : ℕ) → y + o ≡ n - b → b < n → 1 ≤ s → suc i * s ≤ y → b + i * s + min i o < n
+even-starts b n i s o y e h k l = omega arith
+
+-- the octets behind Begin's, and over how many segments they go
+abbrev rest : ℕ → ℕ → AcknowledgmentWindow → ℕ
+rest n budget w = n - beginData n budget (prohibited w)
+
+abbrev pub later : ℕ → ℕ → AcknowledgmentWindow → ℕ
+later n budget w = segmentCount n budget (prohibited w) - 1
+
+-- what each has at least where they are spread evenly, and how many octets are left over then
+abbrev pub share : ℕ → ℕ → AcknowledgmentWindow → ℕ
+share n budget w = rest n budget w / later n budget w
+
+abbrev pub over : ℕ → ℕ → AcknowledgmentWindow → ℕ
+over n budget w = rest n budget w % later n budget w
+
+-- ---- the rest of the message behind Begin's data, over the later segments
+
+module _ (n budget transaction : ℕ) (w : AcknowledgmentWindow) (version ceiling : ℕ) (f : Plannable n budget transaction w version ceiling) where
+  pub begin-below : beginData n budget (prohibited w) < n
+  begin-below = omega (arith, f .long)
+
+  up : later n budget w ≡ roundedUp (rest n budget w) (laterCapacity budget)
+  unfolding segmentCount
+  up = omega arith
+
+  some-later : 1 ≤ later n budget w
+  some-later = omega (arith, up, up-some (rest n budget w) (laterCapacity budget) (omega (arith, f .later-room)) (omega (arith, begin-below)))
+
+  -- the later segments hold the rest
+  covers : rest n budget w ≤ later n budget w * laterCapacity budget
+  covers = rw up (up-covers (rest n budget w) (laterCapacity budget) (omega (arith, f .later-room)))
+
+  -- and one less would not
+  least : (i : ℕ) → i < later n budget w → i * laterCapacity budget < rest n budget w
+  least i h = up-least (rest n budget w) (laterCapacity budget) i (omega (arith, f .later-room)) (omega (arith, up))
+
+  -- nothing is left over: no segment of plan_message is a longer one
+  pub none-longer : longer (planOf n budget transaction w) ≡ 0
+  unfolding planOf longer
+  none-longer = sub-zero (n - beginData n budget (prohibited w)) ((segmentCount n budget (prohibited w) - 1) * laterCapacity budget) covers
+
+  full-sound : Capacities (planOf n budget transaction w)
+  unfolding planOf
+  full-sound =
+      let h = header-within n budget (prohibited w) (f .begin-room) in
+      record {
+        begin-short = omega arith;
+        later-short = rw none-longer (omega arith);
+        begin-below = begin-below;
+        several = several-later (segmentCount n budget (prohibited w)) some-later;
+        few = f .not-many;
+        longer-few = rw none-longer (positive (segmentCount n budget (prohibited w)) some-later);
+        starts = λ i l. rw none-longer (full-starts (beginData n budget (prohibited w)) (i * laterCapacity budget) i n (least i (below-later i (segmentCount n budget (prohibited w)) l)));
+        begin-fits = omega (arith, begin-header n budget transaction w);
+        later-fits = rw none-longer (omega (arith, f .later-room));
+      }
+
+  -- spread evenly
+  pub shared : later n budget w * share n budget w + over n budget w ≡ rest n budget w
+  shared = div-add-mod (rest n budget w) (later n budget w)
+
+  over-few : over n budget w < later n budget w
+  over-few = mod-lt (rest n budget w) some-later
+
+  share-in : share n budget w ≤ laterCapacity budget
+  share-in = div-le-of-le-mul (later n budget w) covers
+
+  -- each share is within the capacity, and one short of it where something is left over
+  share-most : share n budget w + min 1 (over n budget w) ≤ laterCapacity budget
+  share-most =
+      ⊎-elim (λ (l : suc (share n budget w) ≤ laterCapacity budget). one-short (share n budget w) (over n budget w) (laterCapacity budget) l)
+      (λ (l : laterCapacity budget < suc (share n budget w)).
+      let e : share n budget w ≡ laterCapacity budget = same-share (share n budget w) (laterCapacity budget) share-in l in
+      let g : later n budget w * share n budget w ≡ later n budget w * laterCapacity budget = ap (λ (k : ℕ). later n budget w * k) e in
+      none-over (share n budget w) (over n budget w) (laterCapacity budget) (later n budget w * share n budget w) (later n budget w * laterCapacity budget) (rest n budget w) share-in g shared covers)
+      (le-or-lt (suc (share n budget w)) (laterCapacity budget))
+
+  pub share-some : 1 ≤ share n budget w
+  share-some =
+      let k : (later n budget w - 1) * 1 ≤ (later n budget w - 1) * laterCapacity budget = mul-le-mul-left (later n budget w - 1) (omega (arith, f .later-room)) in
+      le-div-iff-mul-le some-later .1 (enough (later n budget w) ((later n budget w - 1) * laterCapacity budget) (rest n budget w) some-later k (least (later n budget w - 1) (one-less (later n budget w) some-later)))
+
+  -- those are the longer segments
+  pub many : longer (evenOf n budget transaction w) ≡ over n budget w
+  unfolding evened shareOf planOf longer
+  many = left-is (rest n budget w) (later n budget w * share n budget w) (over n budget w) shared
+
+  even-header : headerOctets (plannedKind (evenOf n budget transaction w) 0) ≡ beginHeader n budget (prohibited w)
+  unfolding evened planOf
+  even-header = begin-header n budget transaction w
+
+  even-sound : Capacities (evenOf n budget transaction w)
+  unfolding evened shareOf planOf
+  even-sound =
+      let h = header-within n budget (prohibited w) (f .begin-room) in
+      record {
+        begin-short = omega arith;
+        later-short = rw many (short-share (share n budget w + min 1 (over n budget w)) budget share-most);
+        begin-below = begin-below;
+        several = several-later (segmentCount n budget (prohibited w)) some-later;
+        few = f .not-many;
+        longer-few = rw many (few-over (over n budget w) (segmentCount n budget (prohibited w)) over-few);
+        starts = λ i l. rw many (even-starts (beginData n budget (prohibited w)) n i (share n budget w) (over n budget w) (later n budget w * share n budget w) shared begin-below share-some (mul-le-mul-right {m = suc i} {n = later n budget w} (share n budget w) (below-later i (segmentCount n budget (prohibited w)) l)));
+        begin-fits = omega (arith, even-header);
+        later-fits = rw many (fit-share (share n budget w + min 1 (over n budget w)) budget (f .later-room) share-most);
+      }
+
+  plan-sound : (x : Spread) → Capacities (planAs x n budget transaction w)
+  plan-sound full = full-sound
+  plan-sound even = even-sound
 
 -- planMessage plans segments for such arguments alone
 plannable : (n budget transaction : ℕ) (w : AcknowledgmentWindow) (version ceiling : ℕ) → ((k : ℕ) → test (planRows n budget transaction w version ceiling) k ≡ false) → Plannable n budget transaction w version ceiling
@@ -119,59 +280,72 @@ first-pass : (cs : List (Bool × Planning)) (d : Planning) → AllFalse cs → f
 first-pass [] d h = refl
 first-pass (c ∷ cs) d h = rw (h .0) (first-pass cs d (h .1))
 
-pub plan-given : (n budget transaction : ℕ) (w : AcknowledgmentWindow) (version ceiling : ℕ) → Plannable n budget transaction w version ceiling → planMessage n budget transaction w version ceiling ≡ segmented (planOf n budget transaction w)
+message-given : (n budget transaction : ℕ) (w : AcknowledgmentWindow) (version ceiling : ℕ) → Plannable n budget transaction w version ceiling → planMessage n budget transaction w version ceiling ≡ segmented (planOf n budget transaction w)
 unfolding planMessage
-plan-given n budget transaction w version ceiling f =
+message-given n budget transaction w version ceiling f =
     first-pass (planRows n budget transaction w version ceiling) (segmented (planOf n budget transaction w))
     (le-ltb ceiling budget (f .within-ceiling), (lt-leb n budget (f .long), (le-ltb version 1 (f .served), (le-ltb 7 transaction (f .small), (refl, (refl, (refl, (refl, (le-ltb budget (bareOctets (prohibited w)) (f .begin-room), (lt-leb budget 3 (f .later-room), (le-ltb 256 (segmentCount n budget (prohibited w)) (f .not-many), tt)))))))))))
 
--- ---- the laws: of a plan p that planMessage gives
+pub plan-given : (x : Spread) (n budget transaction : ℕ) (w : AcknowledgmentWindow) (version ceiling : ℕ) → Plannable n budget transaction w version ceiling → planning x n budget transaction w version ceiling ≡ segmented (planAs x n budget transaction w)
+plan-given full n budget transaction w version ceiling f = message-given n budget transaction w version ceiling f
+plan-given even n budget transaction w version ceiling f = ap spread (message-given n budget transaction w version ceiling f)
 
-module _ (n budget transaction : ℕ) (w : AcknowledgmentWindow) (version ceiling : ℕ) (p : SegmentedMessage) (ok : planMessage n budget transaction w version ceiling ≡ segmented p) where
+-- where either planner plans segments, plan_message does
+segmented-alike : (x : Spread) (n budget transaction : ℕ) (w : AcknowledgmentWindow) (version ceiling : ℕ) → isSegmented (planning x n budget transaction w version ceiling) ≡ isSegmented (planMessage n budget transaction w version ceiling)
+segmented-alike full n budget transaction w version ceiling = refl
+segmented-alike even n budget transaction w version ceiling = spread-segmented (planMessage n budget transaction w version ceiling)
+
+-- what both planners put into a plan
+fields : (x : Spread) (n budget transaction : ℕ) (w : AcknowledgmentWindow)
+    → (planAs x n budget transaction w .«message_octets» ≡ n)
+    × (planAs x n budget transaction w .«payload_budget_octets» ≡ budget)
+    × (planAs x n budget transaction w .«transaction_id» ≡ transaction)
+    × (planAs x n budget transaction w .«acknowledgment_window» ≡ w)
+    × (planAs x n budget transaction w .count ≡ segmentCount n budget (prohibited w))
+unfolding planOf evened
+fields full n budget transaction w = (refl, refl, refl, refl, refl)
+fields even n budget transaction w = (refl, refl, refl, refl, refl)
+
+-- ---- the laws: of a plan p that a planner gives
+
+module _ (x : Spread) (n budget transaction : ℕ) (w : AcknowledgmentWindow) (version ceiling : ℕ) (p : SegmentedMessage) (ok : planning x n budget transaction w version ceiling ≡ segmented p) where
   none-held : (k : ℕ) → test (planRows n budget transaction w version ceiling) k ≡ false
   unfolding planMessage
   none-held =
-      none-holds (planRows n budget transaction w version ceiling) (segmented (planOf n budget transaction w)) refl (ap isSegmented ok)
-
-  -- it is the plan of the formulas
-  pub plan-is : planOf n budget transaction w ≡ p
-  unfolding planMessage
-  plan-is =
-      let e = all-passed (planRows n budget transaction w version ceiling) (segmented (planOf n budget transaction w)) none-held in
-      let f : segmented (planOf n budget transaction w) ≡ segmented p = sym e ∙ ok in
-      cc
+      none-holds (planRows n budget transaction w version ceiling) (segmented (planOf n budget transaction w)) refl (sym (segmented-alike x n budget transaction w version ceiling) ∙ ap isSegmented ok)
 
   -- its arguments
   pub plan-arguments : Plannable n budget transaction w version ceiling
   plan-arguments = plannable n budget transaction w version ceiling none-held
 
+  -- it is the plan of the formulas, for the even planner spread
+  pub plan-is : planAs x n budget transaction w ≡ p
+  plan-is =
+      let f : segmented (planAs x n budget transaction w) ≡ segmented p = sym (plan-given x n budget transaction w version ceiling plan-arguments) ∙ ok in
+      cc
+
   -- its capacities and count
   pub plan-capacities : Capacities p
-  plan-capacities = subst Capacities plan-is (plan-sound n budget transaction w version ceiling plan-arguments)
+  plan-capacities = subst Capacities plan-is (plan-sound n budget transaction w version ceiling plan-arguments x)
 
   pub plan-octets : p .«message_octets» ≡ n
-  unfolding planOf
-  plan-octets = ap (λ (q : SegmentedMessage). q .«message_octets») (sym plan-is)
+  plan-octets = ap (λ (q : SegmentedMessage). q .«message_octets») (sym plan-is) ∙ fields x n budget transaction w .0
 
   pub plan-payload : p .«payload_budget_octets» ≡ budget
-  unfolding planOf
-  plan-payload = ap (λ (q : SegmentedMessage). q .«payload_budget_octets») (sym plan-is)
+  plan-payload = ap (λ (q : SegmentedMessage). q .«payload_budget_octets») (sym plan-is) ∙ fields x n budget transaction w .1
 
   pub plan-transaction : p .«transaction_id» ≡ transaction
-  unfolding planOf
-  plan-transaction = ap (λ (q : SegmentedMessage). q .«transaction_id») (sym plan-is)
+  plan-transaction = ap (λ (q : SegmentedMessage). q .«transaction_id») (sym plan-is) ∙ fields x n budget transaction w .2
 
   pub plan-window : p .«acknowledgment_window» ≡ w
-  unfolding planOf
-  plan-window = ap (λ (q : SegmentedMessage). q .«acknowledgment_window») (sym plan-is)
+  plan-window = ap (λ (q : SegmentedMessage). q .«acknowledgment_window») (sym plan-is) ∙ fields x n budget transaction w .3
 
   -- the count is a formula of the message's length, the budget and whether the window is Prohibited
   pub plan-count : p .count ≡ segmentCount n budget (prohibited w)
-  unfolding planOf
-  plan-count = ap (λ (q : SegmentedMessage). q .count) (sym plan-is)
+  plan-count = ap (λ (q : SegmentedMessage). q .count) (sym plan-is) ∙ fields x n budget transaction w .4
 
   pub plan-at-least : 2 ≤ p .count
-  plan-at-least = several p plan-capacities
+  plan-at-least = plan-capacities .several
 
   pub plan-at-most : p .count ≤ 256
   plan-at-most = plan-capacities .few

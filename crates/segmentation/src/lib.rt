@@ -1,4 +1,4 @@
-// Planning a message's segments and checking a frozen plan: l3/tsar/segmentation.rs of the source. The planner is in plan, the check in frozen.
+// Planning a message's segments and checking a frozen plan: l3/tsar/segmentation.rs of the source. The planners are in plan, the check in frozen.
 use tsar::AcknowledgmentWindow;
 use tsar::Error;
 use tsar::SegmentHead;
@@ -16,7 +16,8 @@ const MAX_SEGMENT_DATA_OCTETS: usize = 255;
 
 const MAX_LENGTH_IE_MESSAGE_OCTETS: usize = 4095;
 
-// A plan of plan_message: capacities from which every segment follows, and no copy of the message.
+// A plan of either planner: capacities from which every segment follows, and no copy of the message. Where the capacities leave octets over, as
+// many later segments, the first ones, have one octet more than the later capacity.
 pub struct SegmentedMessage {
     pub message_octets: usize,
     pub payload_budget_octets: usize,
@@ -58,7 +59,7 @@ pub enum PlanningError {
     Codec(Error),
 }
 
-// What plan_message answers.
+// What a planner answers.
 pub enum MessagePlan {
     Unsegmented,
     Segmented(SegmentedMessage),

@@ -1,4 +1,4 @@
-// Planning: plan_message, and the segments of a plan.
+// Planning: plan_message, plan_even, and the segments of a plan.
 use crate::FIRST_SEQUENCE_NUMBER;
 use crate::MAX_LENGTH_IE_MESSAGE_OCTETS;
 use crate::MAX_SEGMENT_DATA_OCTETS;
@@ -25,7 +25,7 @@ ghost use mathlib.Core.Path.{_≡_};
 ghost use Prim.Native.Nat.{min, _≤_, _<_};
 ghost use lib.ListN.{length};
 ghost use Rattle.tsar.specs.Rows.{firstOf};
-ghost use Rattle.segmentation.specs.Plan.{prohibited, bareOctets, statesLength, beginHeader, beginData, roundedUp, plannedServices, planOf, segmented, sizeRows, planMessage, plannedBy, partStart, partCapacity, partLength, plannedLength, plannedKind, SegmentSized, segmentAt};
+ghost use Rattle.segmentation.specs.Plan.{prohibited, bareOctets, statesLength, beginHeader, beginData, roundedUp, plannedServices, planOf, segmented, sizeRows, planMessage, shareOf, evened, evenMessage, plannedBy, partStart, partCapacity, partLength, plannedLength, plannedKind, longer, Sized, SegmentSized, segmentAt};
 
 // The smaller of two numbers.
 fn smaller(a: usize, b: usize) -> usize
@@ -184,7 +184,62 @@ pub fn plan_message(
     }
 }
 
+// The plan of plan_message with the octets behind Begin's spread evenly over the later segments, the longer ones first.
+pub fn plan_even(
+    message: &[u8],
+    payload_budget_octets: usize,
+    transaction_id: u8,
+    acknowledgment_window: AcknowledgmentWindow,
+    version: u8,
+    ceiling: usize,
+) -> MessagePlan
+    ensures { λ r. ⌜ plannedBy r ≡ evenMessage (length (now (message .entry))) «payload_budget_octets» «transaction_id» «acknowledgment_window» version ceiling ⌝ }
+{
+    match plan_message(
+        message,
+        payload_budget_octets,
+        transaction_id,
+        acknowledgment_window,
+        version,
+        ceiling,
+    ) {
+        MessagePlan::Unsegmented => MessagePlan::Unsegmented,
+        MessagePlan::Refused(e) => MessagePlan::Refused(e),
+        MessagePlan::Segmented(p) => MessagePlan::Segmented(p.evened()),
+    }
+}
+
 impl SegmentedMessage {
+    // What each later segment has at least where the octets behind Begin's are spread evenly.
+    fn share(self) -> usize
+        ensures { λ r. ⌜ r ≡ shareOf self ⌝ }
+    {
+        if self.count <= 1 {
+            return 0;
+        }
+        if self.message_octets <= self.begin_octets {
+            return 0;
+        }
+        (self.message_octets - self.begin_octets) / (self.count - 1)
+    }
+
+    // The same Begin and count, the rest spread evenly.
+    pub fn evened(self) -> SegmentedMessage
+        ensures { λ r. ⌜ r ≡ evened self ⌝ }
+    {
+        let acknowledgment_window = self.acknowledgment_window;
+        SegmentedMessage {
+            message_octets: self.message_octets,
+            payload_budget_octets: self.payload_budget_octets,
+            transaction_id: self.transaction_id,
+            acknowledgment_window,
+            begin_octets: self.begin_octets,
+            later_capacity: self.share(),
+            count: self.count,
+            states_length: self.states_length,
+        }
+    }
+
     pub fn message_octets(self) -> usize
         ensures { λ r. ⌜ r ≡ self .«message_octets» ⌝ }
     {
@@ -209,6 +264,18 @@ impl SegmentedMessage {
         self.count
     }
 
+    // How many later segments have one octet more: what the capacities leave of the message.
+    fn longer(self) -> usize
+        requires { ⌜ Sized self ⌝ }
+        ensures { λ r. ⌜ r ≡ longer self ⌝ }
+    {
+        let held = self.begin_octets + (self.count - 1) * self.later_capacity;
+        if self.message_octets <= held {
+            return 0;
+        }
+        self.message_octets - held
+    }
+
     // Where the data of a segment begin in the message.
     fn part_start(self, index: usize) -> usize
         requires { ⌜ SegmentSized self index ⌝ }
@@ -217,17 +284,22 @@ impl SegmentedMessage {
         if index == 0 {
             return 0;
         }
-        self.begin_octets + (index - 1) * self.later_capacity
+        let before = (index - 1) * self.later_capacity + smaller(index - 1, self.longer());
+        self.begin_octets + before
     }
 
     // How many octets a segment may have.
     fn part_capacity(self, index: usize) -> usize
+        requires { ⌜ SegmentSized self index ⌝ }
         ensures { λ r. ⌜ r ≡ partCapacity self index ⌝ }
     {
         if index == 0 {
             return self.begin_octets;
         }
-        self.later_capacity
+        if self.longer() < index {
+            return self.later_capacity;
+        }
+        self.later_capacity + 1
     }
 
     // How many it has: as far as the message goes.
@@ -277,20 +349,24 @@ impl SegmentedMessage {
         }
     }
 
-    // Segment i of any record: none past the count, where a capacity passes that of a segment, or where its data would begin past the message.
+    // Segment i of any record: none past the count, where the count passes 256 or a capacity that of a segment, or where it would begin past the
+    // message.
     pub fn segment(self, index: usize) -> PlannedSegment
         ensures { λ r. ⌜ r ≡ segmentAt self index ⌝ }
     {
         if self.count <= index {
             return PlannedSegment::NoSegment;
         }
-        if MAX_SEGMENTS <= index {
+        if MAX_SEGMENTS < self.count {
             return PlannedSegment::NoSegment;
         }
         if MAX_SEGMENT_DATA_OCTETS < self.begin_octets {
             return PlannedSegment::NoSegment;
         }
         if MAX_SEGMENT_DATA_OCTETS < self.later_capacity {
+            return PlannedSegment::NoSegment;
+        }
+        if MAX_SEGMENT_DATA_OCTETS < self.later_capacity + smaller(1, self.longer()) {
             return PlannedSegment::NoSegment;
         }
         let offset = self.part_start(index);

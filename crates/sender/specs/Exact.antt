@@ -1,12 +1,12 @@
 -- 40 is decided exactly. Document 01: 40, 'a record that no planner or frozen check gives for the message under any ceiling'. isGiven holds of a
--- plan exactly where plan_message gives it, at some budget, transaction, window and version and under some ceiling, with the frozen part of no
--- segments beside it; or where the frozen check gives it, for some proposal of 256 heads, under some version and ceiling. The
--- one hypothesis is that the plan's array has 256 heads, which is a fact of its type.
+-- plan exactly where a planner, plan_message or the even one (2026-02), gives it, at some budget, transaction, window and version and under some
+-- ceiling, with the frozen part of no segments beside it; or where the frozen check gives it, for some proposal of 256 heads, under some version
+-- and ceiling. The one hypothesis is that the plan's array has 256 heads, which is a fact of its type.
 use Prim.Native.Nat.{ℕ, zero, suc, _+_, _-_, _≤_, _<_}
 use mathlib.Core.Path.{_≡_, refl, sym, ap, _∙_, subst}
 use mathlib.Core.List.{List, [], _∷_, _++_}
-use mathlib.Core.Bool.{Bool, true, false, cond, not, _&&_, true≢false}
-use mathlib.Core.Logic.{_↔_}
+use mathlib.Core.Bool.{Bool, true, false, cond, not, _&&_, _||_, true≢false, or-true}
+use mathlib.Core.Logic.{⊎-elim, _↔_}
 use mathlib.Core.Option.{Option, none, some}
 use native.Mathlib.Omega.{arith}
 use borrow.Author.Tests.{eqb-true, eq-eqb, le-ltb, ltb-false}
@@ -19,8 +19,8 @@ use Rattle.tsar.specs.Writing.{codecRows}
 use Rattle.tsar.proofs.SameKind.{same-window, window-same, same-kind, kind-same}
 use Rattle.tsar.specs.declared.AcknowledgmentWindow.{AcknowledgmentWindow}
 use Rattle.tsar.specs.declared.SegmentHead.{SegmentHead}
-use Rattle.segmentation.specs.Plan.{Planning, refused as planRefused, unsegmented, segmented, planMessage, planOf}
-use Rattle.segmentation.specs.Planned.{Plannable, plan-given, plan-is, plan-arguments, plan-payload, plan-transaction, plan-window}
+use Rattle.segmentation.specs.Plan.{Planning, refused as planRefused, unsegmented, segmented, planMessage, evenMessage}
+use Rattle.segmentation.specs.Planned.{Spread, full, even, planning, Plannable, plan-given, plan-is, plan-arguments, plan-payload, plan-transaction, plan-window}
 use Rattle.segmentation.specs.declared.SegmentedMessage.{SegmentedMessage}
 use Rattle.segmentation.specs.declared.FrozenMessage.{FrozenMessage}
 use Rattle.segmentation.specs.Frozen.{Proposal, Checked, frozenRefusal, checkedAs, tryFromFrozen, frozenOf, keptHeads, noHead, noPlan, headAt, dataBefore, servicesOf, proposed}
@@ -34,6 +34,7 @@ use Rattle.sender.specs.declared.Plan.{Plan}
 use Rattle.sender.specs.Record.{sameBool}
 use Rattle.sender.specs.TryNew.{samePlan, isPlan, isPlanned, proposing, sameHead, sameHeads, sameFrozen, isFrozen, isEmpty, isGiven}
 use Rattle.sender.specs.Pending.{and-both}
+use Rattle.sender.specs.Made.{ownPlanning, planned-by}
 
 -- ---- two plans are the same exactly where they are one record
 
@@ -77,37 +78,58 @@ plan-same p =
     bool true = refl
     bool false = refl
 
--- ---- plan_message gives the record for n octets, at some budget, transaction, window and version, under some ceiling
+-- ---- a planner gives the record for n octets, at some budget, transaction, window and version, under some ceiling
 
-pub record GivenByPlanner (p : SegmentedMessage) (n : ℕ) : Type 0 where
-  pub budget : ℕ
-  pub transaction : ℕ
-  pub asked : AcknowledgmentWindow
-  pub version : ℕ
-  pub ceiling : ℕ
-  pub gives : planMessage n budget transaction asked version ceiling ≡ segmented p
+pub data GivenByPlanner (p : SegmentedMessage) (n : ℕ) : Type 0 where
+  planned : (budget transaction : ℕ) (w : AcknowledgmentWindow) (version ceiling : ℕ) → planMessage n budget transaction w version ceiling ≡ segmented p → GivenByPlanner p n
+  evenly : (budget transaction : ℕ) (w : AcknowledgmentWindow) (version ceiling : ℕ) → evenMessage n budget transaction w version ceiling ≡ segmented p → GivenByPlanner p n
 
+-- what gives it for its own arguments
+own-gives : (x : Spread) (p : SegmentedMessage) (n : ℕ) → isPlan (ownPlanning x p n) p ≡ true → ownPlanning x p n ≡ segmented p
+own-gives x p n e = go (ownPlanning x p n) refl e
+  where
+    go : (r : Planning) → ownPlanning x p n ≡ r → isPlan r p ≡ true → ownPlanning x p n ≡ segmented p
+    go unsegmented q e = absurd (true≢false (sym e))
+    go (planRefused v) q e = absurd (true≢false (sym e))
+    go (segmented r) q e = q ∙ ap segmented (same-plan r p e)
+
+-- what is given for any is given for its own
+module _ (x : Spread) (p : SegmentedMessage) (n budget transaction : ℕ) (w : AcknowledgmentWindow) (version ceiling : ℕ) (gives : planning x n budget transaction w version ceiling ≡ segmented p) where
+  own-arguments : Plannable n budget transaction w 1 budget
+  own-arguments =
+      let a = plan-arguments x n budget transaction w version ceiling p gives in
+      record { within-ceiling = omega arith; long = a .long; served = omega arith; small = a .small; begin-room = a .begin-room; later-room = a .later-room; not-many = a .not-many }
+
+  given-own : isPlan (ownPlanning x p n) p ≡ true
+  given-own =
+      let b = plan-payload x n budget transaction w version ceiling p gives in
+      let t = plan-transaction x n budget transaction w version ceiling p gives in
+      let v = plan-window x n budget transaction w version ceiling p gives in
+      let made : ownPlanning x p n ≡ segmented p =
+      (λ i. planning x n (b i) (t i) (v i) 1 (b i)) ∙ plan-given x n budget transaction w 1 budget own-arguments ∙ ap segmented (plan-is x n budget transaction w version ceiling p gives) in
+      ap (λ (r : Planning). isPlan r p) made ∙ plan-same p
+
+or-left : (a b : Bool) → a ≡ true → (a || b) ≡ true
+or-left a b e = rw e
+
+or-right : (a b : Bool) → b ≡ true → (a || b) ≡ true
+or-right a b e = rw e (or-true a)
+
+-- 40 of a planned record, both ways
 pub planned-iff : (p : SegmentedMessage) (n : ℕ) → (isPlanned p n ≡ true) ↔ GivenByPlanner p n
 planned-iff p n = (to, from)
   where
     to : isPlanned p n ≡ true → GivenByPlanner p n
-    to e = go (planMessage n (p .«payload_budget_octets») (p .«transaction_id») (p .«acknowledgment_window») 1 (p .«payload_budget_octets»)) refl e
-      where
-        go : (r : Planning) → planMessage n (p .«payload_budget_octets») (p .«transaction_id») (p .«acknowledgment_window») 1 (p .«payload_budget_octets») ≡ r → isPlan r p ≡ true → GivenByPlanner p n
-        go unsegmented q e = absurd (true≢false (sym e))
-        go (planRefused v) q e = absurd (true≢false (sym e))
-        go (segmented r) q e = record { budget = _; transaction = _; asked = _; version = _; ceiling = _; gives = q ∙ ap segmented (same-plan r p e) }
+    to e =
+        ⊎-elim (λ (f : isPlan (ownPlanning full p n) p ≡ true). planned _ _ _ _ _ (own-gives full p n f))
+        (λ (f : isPlan (ownPlanning even p n) p ≡ true). evenly _ _ _ _ _ (own-gives even p n f))
+        (planned-by p n e)
 
     from : GivenByPlanner p n → isPlanned p n ≡ true
-    from g =
-        let a = plan-arguments n (g .budget) (g .transaction) (g .asked) (g .version) (g .ceiling) p (g .gives) in
-        let own : Plannable n (g .budget) (g .transaction) (g .asked) 1 (g .budget) = record { within-ceiling = omega arith; long = a .long; served = omega arith; small = a .small; begin-room = a .begin-room; later-room = a .later-room; not-many = a .not-many } in
-        let b = plan-payload n (g .budget) (g .transaction) (g .asked) (g .version) (g .ceiling) p (g .gives) in
-        let t = plan-transaction n (g .budget) (g .transaction) (g .asked) (g .version) (g .ceiling) p (g .gives) in
-        let w = plan-window n (g .budget) (g .transaction) (g .asked) (g .version) (g .ceiling) p (g .gives) in
-        let made : planMessage n (p .«payload_budget_octets») (p .«transaction_id») (p .«acknowledgment_window») 1 (p .«payload_budget_octets») ≡ segmented p =
-        (λ i. planMessage n (b i) (t i) (w i) 1 (b i)) ∙ plan-given n (g .budget) (g .transaction) (g .asked) 1 (g .budget) own ∙ ap segmented (plan-is n (g .budget) (g .transaction) (g .asked) (g .version) (g .ceiling) p (g .gives)) in
-        ap (λ (r : Planning). isPlan r p) made ∙ plan-same p
+    from (planned budget transaction w version ceiling gives) =
+        or-left (isPlan (ownPlanning full p n) p) (isPlan (ownPlanning even p n) p) (given-own full p n budget transaction w version ceiling gives)
+    from (evenly budget transaction w version ceiling gives) =
+        or-right (isPlan (ownPlanning full p n) p) (isPlan (ownPlanning even p n) p) (given-own even p n budget transaction w version ceiling gives)
 
 -- ---- two heads are the same exactly where they are one
 

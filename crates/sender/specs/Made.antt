@@ -3,7 +3,8 @@
 use Prim.Native.Nat.{ℕ, _≤_}
 use mathlib.Core.Path.{_≡_, refl, sym}
 use mathlib.Core.List.{List}
-use mathlib.Core.Bool.{true, _&&_, true≢false}
+use mathlib.Core.Bool.{Bool, true, false, _&&_, _||_, true≢false}
+use mathlib.Core.Logic.{_⊎_, inl, inr, ⊎-elim}
 use mathlib.Core.Option.{Option, none, some}
 use native.Mathlib.Omega.{arith}
 use borrow.Author.Tests.{eqb-true, not-false}
@@ -11,8 +12,8 @@ use lib.ListN.{length}
 use lib.Dec.{eqb}
 use Rattle.tsar.specs.Rows.{Refusal, refusal, refusal-none}
 use Rattle.tsar.specs.Layout.{windowNumber}
-use Rattle.segmentation.specs.Plan.{Planning, refused as planRefused, unsegmented, segmented, planMessage}
-use Rattle.segmentation.specs.Planned.{plan-at-least, plan-at-most}
+use Rattle.segmentation.specs.Plan.{Planning, refused as planRefused, unsegmented, segmented}
+use Rattle.segmentation.specs.Planned.{Spread, full, even, planning, plan-at-least, plan-at-most}
 use Rattle.segmentation.specs.Frozen.{frozenRefusal, checkedAs, tryFromFrozen}
 use Rattle.segmentation.specs.Accepted.{accepted-iff}
 use Rattle.segmentation.specs.declared.SegmentedMessage.{SegmentedMessage}
@@ -24,7 +25,7 @@ use Rattle.sender.specs.declared.SenderState.{SenderState}
 use Rattle.sender.specs.declared.Terms.{Terms}
 use Rattle.sender.specs.Record.{sameBool, planCount}
 use Rattle.sender.specs.Calls.{refused, answered}
-use Rattle.sender.specs.TryNew.{samePlan, isPlan, isPlanned, proposing, isFrozen, isEmpty, isGiven, tryNewRows, madeAfter, tryNewOf}
+use Rattle.sender.specs.TryNew.{samePlan, isPlan, atOwn, isPlanned, proposing, isFrozen, isEmpty, isGiven, tryNewRows, madeAfter, tryNewOf}
 use Rattle.sender.specs.Pending.{and-both}
 use Rattle.sender.specs.CallList.{Call, answers, afterwards, NoneImpossible, ReachedSender, first-reached, list-keeps, list-says}
 
@@ -41,15 +42,30 @@ same-count p q e =
     let count = eqb (p .count) (q .count) in
     eqb-true (p .count) (q .count) (and-both front count (and-both (front && count) (sameBool (p .«states_length») (q .«states_length»)) e .0) .1)
 
-planned-count : (p : SegmentedMessage) (n : ℕ) → isPlanned p n ≡ true → (2 ≤ p .count) × (p .count ≤ 256)
-planned-count p n = go (planMessage n (p .«payload_budget_octets») (p .«transaction_id») (p .«acknowledgment_window») 1 (p .«payload_budget_octets»)) refl
+-- what one of the planners gives for the record's own arguments
+abbrev pub ownPlanning : Spread → SegmentedMessage → ℕ → Planning
+ownPlanning x p n = atOwn (planning x) p n
+
+either : (a b : Bool) → (a || b) ≡ true → (a ≡ true) ⊎ (b ≡ true)
+either true b e = inl refl
+either false b e = inr e
+
+-- a record that is given is given by the one planner or by the other
+pub planned-by : (p : SegmentedMessage) (n : ℕ) → isPlanned p n ≡ true → (isPlan (ownPlanning full p n) p ≡ true) ⊎ (isPlan (ownPlanning even p n) p ≡ true)
+planned-by p n e = either (isPlan (ownPlanning full p n) p) (isPlan (ownPlanning even p n) p) e
+
+by-count : (x : Spread) (p : SegmentedMessage) (n : ℕ) → isPlan (ownPlanning x p n) p ≡ true → (2 ≤ p .count) × (p .count ≤ 256)
+by-count x p n = go (ownPlanning x p n) refl
   where
-    go : (r : Planning) → planMessage n (p .«payload_budget_octets») (p .«transaction_id») (p .«acknowledgment_window») 1 (p .«payload_budget_octets») ≡ r → isPlan r p ≡ true → (2 ≤ p .count) × (p .count ≤ 256)
+    go : (r : Planning) → ownPlanning x p n ≡ r → isPlan r p ≡ true → (2 ≤ p .count) × (p .count ≤ 256)
     go unsegmented q e = absurd (true≢false (sym e))
     go (planRefused v) q e = absurd (true≢false (sym e))
     go (segmented r) q e =
         let z = same-count r p e in
-        (omega (arith, plan-at-least n (p .«payload_budget_octets») (p .«transaction_id») (p .«acknowledgment_window») 1 (p .«payload_budget_octets») r q), omega (arith, plan-at-most n (p .«payload_budget_octets») (p .«transaction_id») (p .«acknowledgment_window») 1 (p .«payload_budget_octets») r q))
+        (omega (arith, plan-at-least x n (p .«payload_budget_octets») (p .«transaction_id») (p .«acknowledgment_window») 1 (p .«payload_budget_octets») r q), omega (arith, plan-at-most x n (p .«payload_budget_octets») (p .«transaction_id») (p .«acknowledgment_window») 1 (p .«payload_budget_octets») r q))
+
+planned-count : (p : SegmentedMessage) (n : ℕ) → isPlanned p n ≡ true → (2 ≤ p .count) × (p .count ≤ 256)
+planned-count p n e = ⊎-elim (by-count full p n) (by-count even p n) (planned-by p n e)
 
 frozen-count : (f : FrozenMessage) (message : List ℕ) → isFrozen (tryFromFrozen (proposing f message)) f ≡ true → (2 ≤ f .count) × (f .count ≤ 256)
 unfolding tryFromFrozen

@@ -1,7 +1,7 @@
 -- What try_new answers and leaves, with 40, and the submission that a sender offers: document 01, 'Refusals' 40, and 'Port order' 4.
 use Prim.Native.Nat.{ℕ}
 use mathlib.Core.List.{List, [], _∷_}
-use mathlib.Core.Bool.{Bool, true, false, cond, not, _&&_}
+use mathlib.Core.Bool.{Bool, true, false, cond, not, _&&_, _||_}
 use mathlib.Core.Option.{Option, none, some}
 use lib.ListN.{length}
 use lib.Dec.{eqb, ltb}
@@ -11,8 +11,9 @@ use Rattle.link.specs.declared.HigherLayerProtocol.the-variants.{Segmented}
 use Rattle.tsar.specs.Rows.{Refusal, refusal}
 use Rattle.tsar.specs.Kinds.{sameKind}
 use Rattle.tsar.specs.Layout.{windowNumber}
+use Rattle.tsar.specs.declared.AcknowledgmentWindow.{AcknowledgmentWindow}
 use Rattle.tsar.specs.declared.SegmentHead.{SegmentHead}
-use Rattle.segmentation.specs.Plan.{Planning, refused as planRefused, unsegmented, segmented, planMessage, segmentAt}
+use Rattle.segmentation.specs.Plan.{Planning, refused as planRefused, unsegmented, segmented, planMessage, evenMessage, segmentAt}
 use Rattle.segmentation.specs.Frozen.{Proposal, Checked, tryFromFrozen, frozenSegmentAt, noPlan}
 use Rattle.segmentation.specs.declared.SegmentedMessage.{SegmentedMessage}
 use Rattle.segmentation.specs.declared.FrozenMessage.{FrozenMessage}
@@ -35,7 +36,7 @@ use Rattle.sender.specs.Calls.{Step, refused, left, placed}
 
 -- ---- 40
 
--- whether two plans of plan_message are the same
+-- whether two plans of the planners are the same
 abbrev pub samePlan : SegmentedMessage → SegmentedMessage → Bool
 samePlan p q =
     eqb (p .«message_octets») (q .«message_octets»)
@@ -52,10 +53,13 @@ isPlan unsegmented p = false
 isPlan (planRefused n) p = false
 isPlan (segmented q) p = samePlan q p
 
--- plan_message gives it for the message, at its own budget, transaction and window, under version 1 and a ceiling that is the budget
+-- what a planner answers at a record's own budget, transaction and window, under version 1 and a ceiling that is the budget
+abbrev pub atOwn : (ℕ → ℕ → ℕ → AcknowledgmentWindow → ℕ → ℕ → Planning) → SegmentedMessage → ℕ → Planning
+atOwn plans p n = plans n (p .«payload_budget_octets») (p .«transaction_id») (p .«acknowledgment_window») 1 (p .«payload_budget_octets»)
+
+-- one of the planners gives it for the message
 abbrev pub isPlanned : SegmentedMessage → ℕ → Bool
-isPlanned p n =
-    isPlan (planMessage n (p .«payload_budget_octets») (p .«transaction_id») (p .«acknowledgment_window») 1 (p .«payload_budget_octets»)) p
+isPlanned p n = isPlan (atOwn planMessage p n) p || isPlan (atOwn evenMessage p n) p
 
 -- the frozen check gives it for the message, proposed by itself
 abbrev pub proposing : FrozenMessage → List ℕ → Proposal
@@ -99,7 +103,7 @@ sameFrozen f g =
 abbrev pub isFrozen : Checked → FrozenMessage → Bool
 isFrozen c f = isNone (c .refused) && sameFrozen (c .plan) f
 
--- the frozen part beside a plan of plan_message: that of no segments
+-- the frozen part beside a plan of a planner: that of no segments
 abbrev pub isEmpty : FrozenMessage → Bool
 isEmpty f = sameFrozen noPlan f
 

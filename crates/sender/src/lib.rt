@@ -96,7 +96,7 @@ pub enum Deadline {
     At(u64),
 }
 
-// A plan of plan_message, or that the plan is the frozen one beside it.
+// A plan of a planner, or that the plan is the frozen one beside it.
 pub enum PlanForm {
     Planned(SegmentedMessage),
     Frozen,

@@ -59,7 +59,7 @@ pub(crate) fn no_frozen() -> FrozenMessage
     }
 }
 
-// Whether two plans of plan_message are the same.
+// Whether two plans of the planners are the same.
 fn same_plan(p: SegmentedMessage, q: SegmentedMessage) -> bool
     ensures { λ r. ⌜ r ≡ samePlan p q ⌝ }
 {
@@ -89,7 +89,7 @@ fn same_plan(p: SegmentedMessage, q: SegmentedMessage) -> bool
     same(p.states_length, q.states_length)
 }
 
-// Whether plan_message gives the plan for the message.
+// Whether one of the planners gives the plan for the message: plan_message's plan, or the same spread evenly.
 fn is_planned(p: SegmentedMessage, message: &[u8]) -> bool
     ensures { λ r. ⌜ r ≡ isPlanned p (length (now (message .entry))) ⌝ }
 {
@@ -103,7 +103,12 @@ fn is_planned(p: SegmentedMessage, message: &[u8]) -> bool
         p.payload_budget_octets,
     ) {
         MessagePlan::Unsegmented => false,
-        MessagePlan::Segmented(q) => same_plan(q, p),
+        MessagePlan::Segmented(q) => {
+            if same_plan(q, p) {
+                return true;
+            }
+            same_plan(q.evened(), p)
+        }
         MessagePlan::Refused(_) => false,
     }
 }
@@ -236,7 +241,7 @@ fn is_no_frozen(f: FrozenMessage) -> bool
 }
 
 impl Plan {
-    // A plan that plan_message gave.
+    // A plan that a planner gave.
     pub fn planned(p: SegmentedMessage) -> Plan
         ensures { λ r. ⌜ r ≡ record { form = PlanForm.Planned p; frozen = noPlan } ⌝ }
     {

@@ -1,4 +1,4 @@
--- The refusals of the planner, of the frozen check, of the receiver and of a train: none is 0, and none that of octets that spell no value.
+-- The refusals of the planners, of the frozen check, of the receiver and of a train: none is 0, and none that of octets that spell no value.
 -- Assumes nothing.
 use mathlib.Core.Path.{_≡_, refl}
 use mathlib.Core.Bool.{Bool, true, false, not}
@@ -22,7 +22,7 @@ use Rattle.tsar.specs.declared.decode.ParamsRead.the-variants as params
 use Rattle.link.specs.declared.MobileIdentity.{MobileIdentity}
 use Rattle.link.specs.declared.HigherLayerProtocol.{HigherLayerProtocol}
 use Rattle.tsar.specs.Kinds.{prohibited}
-use Rattle.segmentation.specs.Plan.{Planning, unsegmented, refused as unplanned, segmented, planRows, planOf, planMessage}
+use Rattle.segmentation.specs.Plan.{Planning, unsegmented, refused as unplanned, segmented, planRows, planOf, planMessage, spread, evenMessage}
 use Rattle.segmentation.specs.Frozen.{Proposal, dataBefore, segmentRows, segmentsFrom, frozenRows, frozenRefusal, checkedAs, tryFromFrozen}
 use Rattle.receiver.specs.declared.Receiver.{Receiver}
 use Rattle.receiver.specs.declared.Terms.{Terms as ReceiverTerms}
@@ -59,7 +59,7 @@ error-fine (error.Field f) = field-fine f
 error-fine error.Reserved = refl
 error-fine error.DuplicateParameter = refl
 
--- ---- the planner and the frozen check
+-- ---- the planners and the frozen check
 
 abbrev pub finePlanning : Planning → Bool
 finePlanning unsegmented = true
@@ -70,6 +70,15 @@ pub planning-fine : (n budget transaction : ℕ) (w : AcknowledgmentWindow) (ver
 unfolding planMessage
 planning-fine n budget transaction w version ceiling =
     first-passes finePlanning (planRows n budget transaction w version ceiling) (segmented (planOf n budget transaction w)) refl refl
+
+-- spreading leaves the refusals as they are
+pub even-fine : (n budget transaction : ℕ) (w : AcknowledgmentWindow) (version ceiling : ℕ) → finePlanning (evenMessage n budget transaction w version ceiling) ≡ true
+even-fine n budget transaction w version ceiling = go (planMessage n budget transaction w version ceiling) (planning-fine n budget transaction w version ceiling)
+  where
+    go : (p : Planning) → finePlanning p ≡ true → finePlanning (spread p) ≡ true
+    go unsegmented e = e
+    go (unplanned x) e = e
+    go (segmented p) e = refl
 
 segments-fine : (p : Proposal) (k i : ℕ) → passes fine (segmentsFrom p k i) ≡ true
 unfolding segmentsFrom

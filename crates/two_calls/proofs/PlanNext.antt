@@ -1,4 +1,5 @@
--- The law of plans: what catkhize_plan_message or catkhize_try_from_frozen wrote, given to catkhize_plan_segment and catkhize_sender_new. Assumes nothing.
+-- The law of plans: what catkhize_plan_message, catkhize_plan_even or catkhize_try_from_frozen wrote, given to catkhize_plan_segment and
+-- catkhize_sender_new. Assumes nothing.
 use mathlib.Core.Path.{_≡_, refl, sym, ap, subst, _∙_}
 use mathlib.Core.Bool.{Bool, true}
 use mathlib.Core.List.{List, []}
@@ -7,7 +8,7 @@ use Prim.Native.Nat.{ℕ}
 use native.Mathlib.Omega.{arith}
 use lib.ListN.{length}
 use Rattle.tsar.specs.Rows.{Refusal, refusal, refusal-none}
-use Rattle.segmentation.specs.Plan.{Planning, unsegmented, refused, segmented, planMessage}
+use Rattle.segmentation.specs.Plan.{Planning, unsegmented, refused, segmented, planMessage, evenMessage}
 use Rattle.segmentation.specs.Frozen.{Proposal, Checked, tryFromFrozen}
 use Rattle.segmentation.specs.declared.FrozenMessage.{FrozenMessage}
 use Rattle.segmentation.specs.declared.PlannedSegment.{PlannedSegment}
@@ -16,11 +17,11 @@ use Rattle.sender.specs.TryNew.{planSegment}
 use Rattle.image.specs.Cases.{windowOf}
 use Rattle.codec_c.specs.Codes.{unlessRefused}
 use Rattle.plan_image.specs.Plans.{planOf, planOk}
-use Rattle.plan_c.specs.Calls.{PlanCall, spelledBy, planCall, planningGives, messageTests, planMessageCall, PartCall, partCall, segmentGives, segmentTests, planSegmentCall, frozenGives, checkGives, frozenTests, proposal, tryFromFrozenCall}
+use Rattle.plan_c.specs.Calls.{PlanCall, spelledBy, planCall, planningGives, messageTests, planningCall, PartCall, partCall, segmentGives, segmentTests, planSegmentCall, frozenGives, checkGives, frozenTests, proposal, tryFromFrozenCall}
 use Rattle.sender_c.specs.Calls as sender
-use Rattle.two_calls.specs.TwoCalls.{NeverMisspelled, PlanMade, planned, checked, PlanRead, segment, sender-new}
+use Rattle.two_calls.specs.TwoCalls.{NeverMisspelled, PlanMade, planned, evenly, checked, PlanRead, segment, sender-new}
 use Rattle.two_calls.proofs.Passing.{both, twice, not-false-is, isSome, cond-some, refusal-passes, passes, other, notDone, fine, fine-not-done, call-done}
-use Rattle.two_calls.proofs.Numbers.{finePlanning, planning-fine, frozen-fine}
+use Rattle.two_calls.proofs.Numbers.{finePlanning, planning-fine, even-fine, frozen-fine}
 use Rattle.two_calls.proofs.SenderNumbers.{answer-other, sender-new-fine}
 use Rattle.two_calls.proofs.Behaving.{Making, Behaves, never-misspelled, unchanged-by, by-contract}
 
@@ -49,16 +50,15 @@ frozen-spells : (o : Option Refusal) (f : FrozenMessage) (before : List ℕ) →
 frozen-spells none f before p e = refl
 frozen-spells (some x) f before p e = absurd (fine-not-done x p e)
 
-message-done : (message : List ℕ) (budget transaction window version ceiling : ℕ) (before plan : List ℕ)
-    → planCall 0 plan ≡ planMessageCall message budget transaction window version ceiling before → planOk plan ≡ true
-unfolding planMessageCall
-message-done message budget transaction window version ceiling before plan e =
-    let p : Planning = planMessage (length message) budget transaction (windowOf window) version ceiling in
-    spelled-by (messageTests window before) before plan (planningGives p before) (planMessageCall message budget transaction window version ceiling before)
+-- of either planner, by what it answered
+planning-done : (p : Planning) → finePlanning p ≡ true → (window : ℕ) (before plan : List ℕ) → planCall 0 plan ≡ planningCall p window before → planOk plan ≡ true
+unfolding planningCall
+planning-done p f window before plan e =
+    spelled-by (messageTests window before) before plan (planningGives p before) (planningCall p window before)
     (refusal-passes notDone (messageTests window before) refl)
     refl
     e
-    (planning-spells p before (planning-fine (length message) budget transaction (windowOf window) version ceiling))
+    (planning-spells p before f)
 
 check-done : (heads : List ℕ) (count : ℕ) (joined message : List ℕ) (budget version ceiling : ℕ) (before plan : List ℕ)
     → planCall 0 plan ≡ tryFromFrozenCall heads count joined message budget version ceiling before → planOk plan ≡ true
@@ -88,12 +88,9 @@ left-by : (tests : List (Bool × Refusal)) (before : List ℕ) (n : ℕ) (plan :
 left-by tests before n plan done e w z =
     unchanged-by before (λ (k : PlanCall). k .code) (λ (k : PlanCall). k .plan) (λ k. planCall k before) done (λ k. refl) (refusal tests) (planCall n plan) e w z
 
-message-left : (message : List ℕ) (budget transaction window version ceiling : ℕ) (before : List ℕ) (n : ℕ) (plan : List ℕ)
-    → planCall n plan ≡ planMessageCall message budget transaction window version ceiling before → (n ≡ 0 → ⊥) → plan ≡ before
-unfolding planMessageCall
-message-left message budget transaction window version ceiling before n plan e =
-    let p : Planning = planMessage (length message) budget transaction (windowOf window) version ceiling in
-    left-by (messageTests window before) before n plan (planningGives p before) e (planning-left p before)
+call-left : (p : Planning) (window : ℕ) (before : List ℕ) (n : ℕ) (plan : List ℕ) → planCall n plan ≡ planningCall p window before → (n ≡ 0 → ⊥) → plan ≡ before
+unfolding planningCall
+call-left p window before n plan e = left-by (messageTests window before) before n plan (planningGives p before) e (planning-left p before)
 
 check-left : (heads : List ℕ) (count : ℕ) (joined message : List ℕ) (budget version ceiling : ℕ) (before : List ℕ) (n : ℕ) (plan : List ℕ)
     → planCall n plan ≡ tryFromFrozenCall heads count joined message budget version ceiling before → (n ≡ 0 → ⊥) → plan ≡ before
@@ -102,12 +99,20 @@ check-left heads count joined message budget version ceiling before n plan e =
     let k : Checked = tryFromFrozen (proposal heads count joined message budget version ceiling) in
     left-by (frozenTests heads before) before n plan (checkGives k before) e (frozen-left (k .refused) (k .plan) before)
 
+planning-making : (p : Planning) → finePlanning p ≡ true → (window : ℕ) (before : List ℕ) (n : ℕ) (plan : List ℕ) → planCall n plan ≡ planningCall p window before → Making planOk before n plan
+planning-making p f window before n plan e =
+    record {
+      made-ok = λ z. planning-done p f window before plan (ap (λ (k : ℕ). planCall k plan) (sym z) ∙ e);
+      unchanged = call-left p window before n plan e;
+    }
+
 making : (before : List ℕ) (n : ℕ) (plan : List ℕ) → PlanMade before n plan → Making planOk before n plan
 making before n plan (planned message budget transaction window version ceiling e) =
-    record {
-      made-ok = λ z. message-done message budget transaction window version ceiling before plan (ap (λ (k : ℕ). planCall k plan) (sym z) ∙ e);
-      unchanged = message-left message budget transaction window version ceiling before n plan e;
-    }
+    planning-making (planMessage (length message) budget transaction (windowOf window) version ceiling)
+    (planning-fine (length message) budget transaction (windowOf window) version ceiling) window before n plan e
+making before n plan (evenly message budget transaction window version ceiling e) =
+    planning-making (evenMessage (length message) budget transaction (windowOf window) version ceiling)
+    (even-fine (length message) budget transaction (windowOf window) version ceiling) window before n plan e
 making before n plan (checked heads count joined message budget version ceiling e) =
     record {
       made-ok = λ z. check-done heads count joined message budget version ceiling before plan (ap (λ (k : ℕ). planCall k plan) (sym z) ∙ e);

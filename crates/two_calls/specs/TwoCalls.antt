@@ -10,7 +10,7 @@ use Rattle.codec_c.specs.Codes.{codeOf, short, misspelled, unnamed}
 use Rattle.image.specs.Segments.{segmentOk}
 use Rattle.image_link.specs.Responses.{responseOk}
 use Rattle.sender_image.specs.Images.{recordOf}
-use Rattle.plan_c.specs.Calls.{planCall, planMessageCall, partCall, planSegmentCall, tryFromFrozenCall}
+use Rattle.plan_c.specs.Calls.{planCall, planMessageCall, planEvenCall, partCall, planSegmentCall, tryFromFrozenCall}
 use Rattle.receiver_c.specs.Calls as receiver
 use Rattle.train_c.specs.Calls as train
 use Rattle.sender_c.specs.Calls as sender
@@ -25,7 +25,7 @@ ownNumber n = eqb n (codeOf short) || (eqb n (codeOf misspelled) || eqb n (codeO
 -- that reads a value did; `others` says whether what else it reads as a value spells one
 
 -- octets that calls wrote: a call that makes a value gave 0; a call that reads one went past the exports' own tests; or such octets were given to
--- any call of either sort, whatever it gave: also to one that was refused, or to a plan_message that gave 1
+-- any call of either sort, whatever it gave: also to one that was refused, or to a planner that gave 1
 pub data Written (Makes : List ℕ → ℕ → List ℕ → Type 0) (Call : Bool → List ℕ → ℕ → List ℕ → Type 0) : List ℕ → Type 0 where
   made : (before l : List ℕ) → Makes before 0 l → Written Makes Call l
   passed : (others : Bool) (before : List ℕ) (n : ℕ) (l : List ℕ) → ownNumber n ≡ false → Call others before n l → Written Makes Call l
@@ -38,10 +38,12 @@ NeverMisspelled Makes Call = (l : List ℕ) → Written Makes Call l → (n : �
 
 -- ---- plans
 
--- catkhize_plan_message and catkhize_try_from_frozen
+-- catkhize_plan_message, catkhize_plan_even and catkhize_try_from_frozen
 pub data PlanMade (before : List ℕ) (n : ℕ) (plan : List ℕ) : Type 0 where
   planned : (message : List ℕ) (budget transaction window version ceiling : ℕ)
       → planCall n plan ≡ planMessageCall message budget transaction window version ceiling before → PlanMade before n plan
+  evenly : (message : List ℕ) (budget transaction window version ceiling : ℕ)
+      → planCall n plan ≡ planEvenCall message budget transaction window version ceiling before → PlanMade before n plan
   checked : (heads : List ℕ) (count : ℕ) (joined message : List ℕ) (budget version ceiling : ℕ)
       → planCall n plan ≡ tryFromFrozenCall heads count joined message budget version ceiling before → PlanMade before n plan
 

@@ -4,7 +4,7 @@
 use crate::codec;
 use crate::spell::{self, filled};
 use crate::spells;
-use crate::table::{Area, PAST_MESSAGE, Table};
+use crate::table::{Area, EVEN_PLANNER, MORE_THAN_FITS, ONE_MORE, PAST_MESSAGE, TOO_MANY, Table};
 use crate::watch::{Checked, same, same_given};
 use bts136::l3::tsar::{Segment, SegmentKind};
 use catkhize::{calls, layout};
@@ -15,7 +15,7 @@ use record::octets::{Put, Take};
 use record::play::plan::{Frozen, Head, Wanted};
 use record::random::Random;
 
-use crate::plans::{head_octets, port_frozen, port_plan};
+use crate::plans::{Planner, head_octets, port_frozen, port_plan};
 
 const SHORT: u32 = 256 * spells::TOO_SHORT;
 const SPELLS_NONE: u32 = 256 * spells::SPELLS_NONE;
@@ -28,7 +28,11 @@ pub fn codec(table: &mut Table, seed: u64) -> Checked {
 
 pub fn plans(table: &mut Table, seed: u64) -> Checked {
     let random = &mut Random::new(seed);
-    planner(table.area("planner"), random)?;
+    let lengths = (0..40).map(|_| random.below(layout::PLAN));
+    let lengths: Vec<usize> = lengths.chain([0, 1, layout::PLAN - 1]).collect();
+    planner(table.area("planner"), calls::plan_message, &lengths)?;
+    planner(table.area(EVEN_PLANNER), calls::plan_even, &lengths)?;
+    plan_segments(table.area("planner"), random, &lengths)?;
     frozen(table.area("frozen check"), random)
 }
 
@@ -104,7 +108,32 @@ fn answers(area: &mut Area) -> Checked {
     Ok(())
 }
 
-fn planner(area: &mut Area, random: &mut Random) -> Checked {
+const MESSAGE: [u8; 40] = [7; 40];
+
+/// A planner with plans that are too short, and with numbers that name no window.
+fn planner(area: &mut Area, planner: Planner, lengths: &[usize]) -> Checked {
+    for octets in lengths {
+        // A wrong window too: the shorter buffer comes first.
+        for window in [1, 6] {
+            let mut short = filled(*octets);
+            let found = planner(&MESSAGE, 12, 5, window, 1, 12, &mut short);
+            area.count(found);
+            same_given(found, SHORT)?;
+            same("plan", &short, &filled(*octets))?;
+        }
+    }
+    for window in 6..=255 {
+        let mut lent = filled(layout::PLAN);
+        let found = planner(&MESSAGE, 12, 5, window, 0, 11, &mut lent);
+        area.count(found);
+        same_given(found, NAMES_NONE)?;
+        same("plan", &lent, &filled(layout::PLAN))?;
+    }
+    Ok(())
+}
+
+/// Segments of plans that are too short, made up or changed.
+fn plan_segments(area: &mut Area, random: &mut Random, lengths: &[usize]) -> Checked {
     let wanted = Wanted {
         message_octets: 40,
         seed: 3,
@@ -114,22 +143,13 @@ fn planner(area: &mut Area, random: &mut Random) -> Checked {
         window: 1,
         version: 1,
     };
-    let message = [7; 40];
-    let lengths = (0..40).map(|_| random.below(layout::PLAN));
-    let lengths: Vec<usize> = lengths.chain([0, 1, layout::PLAN - 1]).collect();
-    let (given, plan) = port_plan(&wanted, &message);
+    let (given, plan) = port_plan(calls::plan_message, &wanted, &MESSAGE);
+    same_given(given, 0)?;
+    let (given, even) = port_plan(calls::plan_even, &wanted, &MESSAGE);
     same_given(given, 0)?;
     for octets in lengths {
-        // A wrong window too: the shorter buffer comes first.
-        for window in [1, 6] {
-            let mut short = filled(octets);
-            let found = calls::plan_message(&message, 12, 5, window, 1, 12, &mut short);
-            area.count(found);
-            same_given(found, SHORT)?;
-            same("plan", &short, &filled(octets))?;
-        }
         let mut answer = filled(layout::PART);
-        let found = calls::plan_segment(&plan[..octets], 0, &mut answer);
+        let found = calls::plan_segment(&plan[..*octets], 0, &mut answer);
         area.count(found);
         same_given(found, SHORT)?;
         same("answer", &answer, &filled(layout::PART))?;
@@ -141,19 +161,12 @@ fn planner(area: &mut Area, random: &mut Random) -> Checked {
         same_given(found, SHORT)?;
         same("answer", &answer, &filled(octets))?;
     }
-    for window in 6..=255 {
-        let mut lent = filled(layout::PLAN);
-        let found = calls::plan_message(&message, 12, 5, window, 0, 11, &mut lent);
-        area.count(found);
-        same_given(found, NAMES_NONE)?;
-        same("plan", &lent, &filled(layout::PLAN))?;
-    }
     for _ in 0..MADE_UP {
         made_up_plan(area, random, &plan)?;
     }
     let (given, other) = port_frozen(&any_cutting(random));
     same_given(given, 0)?;
-    for plan in [plan, other] {
+    for plan in [plan, even, other] {
         for _ in 0..600 {
             changed_plan(area, random, &plan)?;
         }
@@ -185,13 +198,14 @@ fn changed_plan(area: &mut Area, random: &mut Random, plan: &[u8]) -> Checked {
 /// Where the numbers of a planned PLAN stand.
 const MESSAGE_OCTETS: usize = 2;
 const BEGIN_OCTETS: usize = 20;
-const LATER_CAPACITY: usize = 28;
+pub const LATER_CAPACITY: usize = 28;
 const COUNT: usize = 36;
 
 /// How many plans are made up.
 const MADE_UP: usize = 2_000;
 
-/// A planned one of any sizes and count, of a message that ends around the place where the segment asked for would begin.
+/// A planned one of any sizes and count, of a message that ends around the place where the segment asked for would begin, or around where
+/// its capacities end.
 fn made_up_plan(area: &mut Area, random: &mut Random, plan: &[u8]) -> Checked {
     let any_index = random.octet();
     let index = random.pick(&[0, 1, 2, 254, 255, any_index]);
@@ -203,23 +217,49 @@ fn made_up_plan(area: &mut Area, random: &mut Random, plan: &[u8]) -> Checked {
         None => 0,
         Some(before) => begin.saturating_add(before.saturating_mul(later)),
     };
-    let around = [start.saturating_sub(1), start, start.saturating_add(1)];
-    let message = random.pick(&[0, around[0], around[1], around[2], 65_280, u64::MAX]);
+    let held = begin.saturating_add(count.saturating_sub(1).saturating_mul(later));
+    let more = |octets: u64, more: u64| octets.saturating_add(more);
+    let message = random.pick(&[
+        0,
+        start.saturating_sub(1),
+        start,
+        more(start, 1),
+        held,
+        more(held, 1),
+        more(held, next),
+        more(held, count),
+        65_280,
+        u64::MAX,
+    ]);
     let mut plan = plan.to_vec();
     let mut put = |at: usize, value: u64| plan[at..at + 8].copy_from_slice(&value.to_be_bytes());
     put(MESSAGE_OCTETS, message);
     put(BEGIN_OCTETS, begin);
     put(LATER_CAPACITY, later);
     put(COUNT, count);
-    let mut longer = plan.clone();
-    longer[MESSAGE_OCTETS..MESSAGE_OCTETS + 8].fill(u8::MAX);
-    if spells::part(&plan, index).is_none() && spells::part(&longer, index).is_some() {
-        area.input(PAST_MESSAGE);
-    }
+    made_up_inputs(area, [message, begin, later, count], next);
     let named = |what| {
         format!("segment {index} of {count}, {begin} and {later} octets, of {message}: {what}")
     };
     part_of(area, &plan, index).map_err(named)
+}
+
+/// Why a made-up plan has no segment `index` that is below its count, or that the segment has one octet more.
+fn made_up_inputs(area: &mut Area, [message, begin, later, count]: [u64; 4], index: u64) {
+    if index >= count || begin > spells::MOST_DATA || later > spells::MOST_DATA {
+        return;
+    }
+    if count > spells::MOST_SEGMENTS {
+        return area.input(TOO_MANY);
+    }
+    let longer = spells::left_over(message, [begin, later, count]);
+    if longer > 0 && later == spells::MOST_DATA {
+        area.input(MORE_THAN_FITS);
+    } else if (1..=longer).contains(&index) {
+        area.input(ONE_MORE);
+    } else if index > 0 && message < begin + (index - 1) * later {
+        area.input(PAST_MESSAGE);
+    }
 }
 
 /// Segment `index` of a plan, whoever made it. Of a segment that is given, its data's number and place are compared.

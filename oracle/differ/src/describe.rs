@@ -1,5 +1,6 @@
 //! A call in words, for who reads a disagreement.
 
+use crate::even;
 use crate::receiver::{RELEASE, TRAIN};
 use crate::watch::{Case, FIRST_PROBE};
 use record::fields::{take_head, take_peer, take_protocol};
@@ -73,7 +74,7 @@ pub fn describe(case: &Case) -> String {
                 "encode: version {version}, {segment:?}, data {data:02x?}, output of {room} octets"
             )
         }
-        0x10 => format!("plan_message: {}", plan(&Wanted::take(&mut take))),
+        0x10 => format!("plan: {}", plan(&Wanted::take(&mut take))),
         0x11 => {
             let mut check = Frozen::take_fixed(&mut take);
             check.take_heads(&mut take);
@@ -117,7 +118,16 @@ pub fn describe(case: &Case) -> String {
         0x30 => {
             let wanted = Wanted::take(&mut take);
             let opening = Sending::take(&mut take);
-            format!("sender try_new: {}; {}", plan(&wanted), sender(&opening))
+            let planner = if even::sends(&wanted) {
+                "plan_even"
+            } else {
+                "plan_message"
+            };
+            format!(
+                "sender try_new: {planner}, {}; {}",
+                plan(&wanted),
+                sender(&opening)
+            )
         }
         0x36 => {
             let mut check = Frozen::take_fixed(&mut take);

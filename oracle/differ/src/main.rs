@@ -2,7 +2,7 @@
 //!
 //! differ [--seed S] [--rounds N] [--threads T] [--shrink 0] [--areas LETTERS]
 //!
-//! LETTERS are some of c (codec), p (planner and frozen check), r (receiver), t (trains), s (sender); all of them if none is given.
+//! LETTERS are some of c (codec), p (planners and frozen check), r (receiver), t (trains), s (sender); all of them if none is given.
 //!
 //! It runs through what can be run through whole, then N rounds of random and systematic inputs, prints what it ran, and ends with status
 //! 1 where the two disagree (after the smallest input found), or where a refusal, a state or an input that a run has to have was not seen.
@@ -10,6 +10,7 @@
 mod buffers;
 mod codec;
 mod describe;
+mod even;
 mod made_up;
 mod plans;
 mod receiver;

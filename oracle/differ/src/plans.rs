@@ -1,13 +1,17 @@
-//! Plans: plan_message, segment i of a plan, and the frozen check.
+//! Plans: both planners, segment i of a plan, and the frozen check.
 
+use crate::even;
 use crate::spell::{self, FILLING, filled};
-use crate::table::{Area, Table};
+use crate::table::{
+    Area, EVEN_LEFT, EVEN_LONGER_END, EVEN_MOST, EVEN_PLANNER, EVEN_TWO, EVEN_WHOLE, Table,
+};
 use crate::watch::{Case, Checked, Checker, given, same, same_given};
 use bts136::l3::tsar::{MessagePlan, Segment, SegmentedMessage};
 use catkhize::{calls, layout};
 use record::octets::{Put, Take, pattern};
 use record::play::plan::{Frozen, MAX_SEGMENTS, PLAN, Plans, Wanted};
 use record::random::Random;
+use record::refusals::Refusal;
 
 const PLANNER: &str = "planner";
 const FROZEN_CHECK: &str = "frozen check";
@@ -32,7 +36,7 @@ impl Checker for PlanChecker {
         let all = self.plans.is_multiple_of(16);
         let mut take = Take(&case.input);
         if case.op == PLAN {
-            planner(table.area(PLANNER), &Wanted::take(&mut take), all)
+            planners(table, &Wanted::take(&mut take), all)
         } else {
             let mut frozen = Frozen::take_fixed(&mut take);
             frozen.take_heads(&mut take);
@@ -52,10 +56,13 @@ impl Checker for PlanChecker {
 /// Octets past a plan's layout, which stay as they are.
 const MORE: usize = 3;
 
-/// Calls plan_message; the plan where there is one.
-pub fn port_plan(wanted: &Wanted, message: &[u8]) -> (u32, Vec<u8>) {
+/// An entry of a planner.
+pub type Planner = fn(&[u8], u64, u8, u8, u8, u64, &mut [u8]) -> u32;
+
+/// Calls a planner; the plan where there is one.
+pub fn port_plan(planner: Planner, wanted: &Wanted, message: &[u8]) -> (u32, Vec<u8>) {
     let mut plan = filled(layout::PLAN + MORE);
-    let given = calls::plan_message(
+    let given = planner(
         message,
         wanted.budget as u64,
         wanted.transaction,
@@ -67,13 +74,55 @@ pub fn port_plan(wanted: &Wanted, message: &[u8]) -> (u32, Vec<u8>) {
     (given, plan)
 }
 
-fn planner(area: &mut Area, wanted: &Wanted, all: bool) -> Checked {
+/// Both planners on a message; and the even train through the frozen check.
+fn planners(table: &mut Table, wanted: &Wanted, all: bool) -> Checked {
     let message = pattern(wanted.message_octets, wanted.seed);
-    let (found, plan) = port_plan(wanted, &message);
+    let original = wanted.plan();
+    let found = port_plan(calls::plan_message, wanted, &message);
+    planner(table.area(PLANNER), found, &original, spell::planned, all)?;
+
+    let named = |what: String| format!("plan_even: {what}");
+    let even = even::spread(wanted, &original).map_err(named)?;
+    let found = port_plan(calls::plan_even, wanted, &message);
+    let area = table.area(EVEN_PLANNER);
+    planner(area, found, &even, spell::evenly, all).map_err(named)?;
+    let Ok(MessagePlan::Segmented(original)) = original else {
+        return Ok(());
+    };
+    even_inputs(area, &original);
+    let train = even::train(wanted, &original);
+    frozen_check(table.area(FROZEN_CHECK), &train, 0, all).map_err(named)
+}
+
+/// What an even plan was of: by the original's plan of the same message.
+fn even_inputs(area: &mut Area, original: &SegmentedMessage) {
+    let lengths = even::lengths(original);
+    let count = lengths.len();
+    let left = lengths[1] > lengths[count - 1];
+    area.input(if left { EVEN_LEFT } else { EVEN_WHOLE });
+    if count == 2 {
+        area.input(EVEN_TWO);
+    }
+    if left && count == MAX_SEGMENTS {
+        area.input(EVEN_MOST);
+    }
+    if original.segments()[count - 1].segment_data.len() < lengths[count - 1] {
+        area.input(EVEN_LONGER_END);
+    }
+}
+
+/// What a planner gave, where the original's answer is known, and a plan's octets.
+fn planner(
+    area: &mut Area,
+    (found, plan): (u32, Vec<u8>),
+    original: &Result<MessagePlan, Refusal>,
+    spelled: fn(&SegmentedMessage) -> Vec<u8>,
+    all: bool,
+) -> Checked {
     area.count(found);
-    match wanted.plan() {
+    match original {
         Err((n, m)) => {
-            same_given(found, 256 * u32::from(n) + u32::from(m))?;
+            same_given(found, 256 * u32::from(*n) + u32::from(*m))?;
             same("plan", &plan, &filled(layout::PLAN + MORE))
         }
         Ok(MessagePlan::Unsegmented(_)) => {
@@ -82,10 +131,10 @@ fn planner(area: &mut Area, wanted: &Wanted, all: bool) -> Checked {
         }
         Ok(MessagePlan::Segmented(original)) => {
             same_given(found, 0)?;
-            let mut expected = spell::planned(&original);
+            let mut expected = spelled(original);
             expected.put_all(&[FILLING; MORE]);
             same("plan", &plan, &expected)?;
-            segments(area, &plan, &original, all)
+            segments(area, &plan, original, all)
         }
     }
 }

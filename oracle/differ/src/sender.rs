@@ -1,10 +1,14 @@
 //! Senders: every call, with every octet of the record, and what is offered.
 
+use crate::even;
 use crate::made_up;
 use crate::plans::{port_frozen, port_plan};
 use crate::spell::{self, FILLING, SENDER_PLAN, Tickets, filled};
 use crate::spells;
-use crate::table::{Area, FROZEN_SENDER, FULL_MAP, FULL_SENDER, LATE_SUBMISSION, Table};
+use crate::table::{
+    Area, EVEN_SENDER, FROZEN_SENDER, FULL_MAP, FULL_SENDER, LATE_SUBMISSION, NEITHER_PLANNER,
+    OTHER_PLANNER, Table,
+};
 use crate::watch::{Case, Checked, Checker, given, same, same_given};
 use bts136::l3::broadcast::ProtocolVersion;
 use bts136::l3::relay::set_ceiling;
@@ -33,6 +37,9 @@ const PLAN: u8 = 0x84;
 const MADE_UP: &str = "senders made up";
 /// How many submissions a made-up sender is said to have made: more than any list names.
 const MADE: u64 = 1 << 40;
+
+/// The last octet of a planned plan's later capacity, which no list has above 255.
+const LATER_CAPACITY: u64 = crate::buffers::LATER_CAPACITY as u64 + 7;
 
 const LAST_QUEUED: u64 = u64::MAX - 330_000;
 const LAST_TICKET: usize = 44;
@@ -150,7 +157,13 @@ impl Port {
             let wanted = Wanted::take(&mut take);
             let message = pattern(wanted.message_octets, wanted.seed);
             let opening = Opening::take(&mut take);
-            (port_plan(&wanted, &message), message, opening)
+            let planner = if even::sends(&wanted) {
+                area.input(EVEN_SENDER);
+                calls::plan_even
+            } else {
+                calls::plan_message
+            };
+            (port_plan(planner, &wanted, &message), message, opening)
         } else {
             let mut frozen = Frozen::take_fixed(&mut take);
             let opening = Opening::take(&mut take);
@@ -511,6 +524,13 @@ impl Port {
             256 * 40
         };
         same_given(found, expected)?;
+        if at == LATER_CAPACITY && also == 0 && plan != self.plan {
+            match expected / 256 {
+                0 => area.input(OTHER_PLANNER),
+                40 => area.input(NEITHER_PLANNER),
+                _ => {}
+            }
+        }
         if expected == 0 {
             return same("plan", &record[SENDER_PLAN..], &plan[1..layout::PLAN]);
         }
@@ -518,7 +538,8 @@ impl Port {
     }
 }
 
-/// Whether the original's planner or frozen check gives the plan that the octets spell, for this message and under some ceiling.
+/// Whether a planner or the original's frozen check gives the plan that the octets spell, for this message and under some ceiling. The
+/// original's plan, and the same dealt out evenly, are those of the planners.
 fn is_plan_of(plan: &[u8], message: &[u8]) -> bool {
     let mut take = Take(&plan[1..]);
     if take.take8() == 0 {
@@ -533,7 +554,10 @@ fn is_plan_of(plan: &[u8], message: &[u8]) -> bool {
         return match plan_message(message, budget, transaction, spell::window(window), version) {
             // Under Planned the frozen part is that of no segments.
             Ok(MessagePlan::Segmented(original)) => {
-                spell::planned(&original) == plan[..layout::PLAN]
+                let planned = [spell::planned(&original), spell::evenly(&original)];
+                planned
+                    .iter()
+                    .any(|planned| *planned == plan[..layout::PLAN])
             }
             _ => false,
         };
@@ -595,6 +619,13 @@ impl Checker for Senders {
     type Original = Sending;
 
     const NAME: &'static str = "sender";
+
+    fn original() -> Sending {
+        Sending {
+            plan: even::sent,
+            ..Sending::default()
+        }
+    }
 
     fn opens(op: u8) -> bool {
         op == OPEN || op == OPEN_FROZEN
@@ -693,6 +724,29 @@ impl Checker for Senders {
         input.put_all(&next.input);
         Some(Case { op, input })
     }
+
+    /// After one try_new in two with a planned plan: the plan with another later capacity.
+    fn any_other(&self, random: &mut Random, last: &Case) -> Option<Case> {
+        self.port.as_ref()?;
+        if last.op != OPEN || !random.once_in(2) {
+            return None;
+        }
+        let wanted = Wanted::take(&mut Take(&last.input));
+        let input = capacity_numbers(random, &wanted)?;
+        Some(Case { op: PLAN, input })
+    }
+}
+
+/// Another later capacity for the plan of a message, next to what one of the planners gives.
+fn capacity_numbers(random: &mut Random, wanted: &Wanted) -> Option<Vec<u8>> {
+    let lengths = even::lengths(&wanted.segmented()?);
+    let (full, share) = (wanted.budget - 3, lengths[lengths.len() - 1]);
+    let change = random.pick(&[full - 1, full, full + 1, share - 1, share, share + 1]);
+    let mut input = Vec::new();
+    input.put64(LATER_CAPACITY);
+    input.put64(change as u64);
+    input.put64(0);
+    Some(input)
 }
 
 /// An octet of a plan to change, mostly one that matters, and how the message differs, if it does.

@@ -1,5 +1,6 @@
 //! What the original's values are in the layouts of the exports (include/catkhize.h): the expected octets of every buffer.
 
+use crate::even;
 use bts136::l3::relay::HigherLayerProtocol;
 use bts136::l3::tsar::{
     AcknowledgmentWindow, Response, Segment, SegmentKind, SegmentedMessage, Status,
@@ -182,15 +183,24 @@ pub fn receiver(terms: Terms, receiver: &Receiver) -> Vec<u8> {
 
 /// The plan of plan_message.
 pub fn planned(plan: &SegmentedMessage) -> Vec<u8> {
+    let later = (plan.payload_budget_octets() - 3).min(255);
+    planned_with(plan, later)
+}
+
+/// The plan of plan_even that has these segments, or the Begin and the count of these: what each later one has at least is the last one's.
+pub fn evenly(plan: &SegmentedMessage) -> Vec<u8> {
+    let lengths = even::lengths(plan);
+    planned_with(plan, lengths[lengths.len() - 1])
+}
+
+fn planned_with(plan: &SegmentedMessage, later: usize) -> Vec<u8> {
     let segments = plan.segments();
     let SegmentKind::Begin { message_length, .. } = segments[0].kind else {
         panic!("a plan opens with a Begin");
     };
-    let budget = plan.payload_budget_octets();
-    let later = (budget - 3).min(255);
     let mut out = vec![layout::LAYOUT_VERSION, 0];
     out.put64(plan.message_octets() as u64);
-    out.put64(budget as u64);
+    out.put64(plan.payload_budget_octets() as u64);
     out.put8(segments[0].transaction_id);
     out.put8(plan.acknowledgment_window() as u8);
     out.put64(segments[0].segment_data.len() as u64);

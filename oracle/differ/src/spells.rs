@@ -124,8 +124,9 @@ pub fn plan(octets: &[u8]) -> bool {
     octets[0] == layout::LAYOUT_VERSION && plan_after_version(&octets[1..])
 }
 
-/// The data octets of a segment at the most.
-const MOST_DATA: u64 = 255;
+/// The data octets of a segment, and the segments of a plan, at the most.
+pub const MOST_DATA: u64 = 255;
+pub const MOST_SEGMENTS: u64 = 256;
 
 /// Where the data of a segment lie in the message.
 pub struct Part {
@@ -133,8 +134,11 @@ pub struct Part {
     pub offset: u64,
 }
 
-/// Segment `index` of a PLAN, whoever made it. There is none at or past the count; nor in a planned one where a capacity passes that of a
-/// segment, or where it would begin past the message; nor in a frozen one where its data would end past the message.
+/// Segment `index` of a PLAN, whoever made it. There is none at or past the count; nor in a planned one where the count passes 256, a capacity
+/// passes that of a segment, or it would begin past the message; nor in a frozen one where its data would end past the message.
+///
+/// Where a planned one's capacities leave octets of the message, as many of the later segments as octets are left, the first of them, have
+/// one octet more.
 pub fn part(octets: &[u8], index: u8) -> Option<Part> {
     let mut take = Take(&octets[1..]);
     let frozen = take.flag();
@@ -151,16 +155,26 @@ pub fn part(octets: &[u8], index: u8) -> Option<Part> {
     planned.octets(10);
     let [begin, later, count] = [planned.take64(), planned.take64(), planned.take64()];
     let index = u64::from(index);
-    if index >= count || begin > MOST_DATA || later > MOST_DATA {
+    if index >= count || count > MOST_SEGMENTS || begin > MOST_DATA || later > MOST_DATA {
         return None;
     }
-    let (capacity, offset) = match index.checked_sub(1) {
-        None => (begin, 0),
-        Some(before) => (later, begin + before * later),
+    let longer = left_over(message, [begin, later, count]);
+    if longer > 0 && later == MOST_DATA {
+        return None;
+    }
+    let capacity = |index: u64| match index {
+        0 => begin,
+        _ => later + u64::from(index <= longer),
     };
+    let offset = (0..index).map(capacity).sum();
     let left = message.checked_sub(offset)?;
-    let octets = capacity.min(left);
+    let octets = capacity(index).min(left);
     Some(Part { octets, offset })
+}
+
+/// What the capacities of at most 256 segments leave of a message.
+pub fn left_over(message: u64, [begin, later, count]: [u64; 3]) -> u64 {
+    message.saturating_sub(begin + (1..count).map(|_| later).sum::<u64>())
 }
 
 /// By the heads alone; none where the data before it pass 2^64.

@@ -72,9 +72,10 @@ fn refusal_name(number: u32) -> String {
 
 /// The refusals that a run has to see, by area. 24, 40, 41, 60 to 63 and 256 to 258 lie outside document 01's domain, as no list of calls on
 /// right buffers gives them; the run reaches them with damaged plans, records and buffers.
-const REFUSALS: [(&str, &str); 8] = [
+const REFUSALS: [(&str, &str); 9] = [
     ("codec", "1 2 3 4 5 6/1 6/2 6/3 6/4 6/5 7 8 61 256 257"),
     ("planner", "1 6/1 20 21 22 256 257 258"),
+    (EVEN_PLANNER, "1 6/1 20 21 22 256 258"),
     ("frozen check", "1 6/1 6/2 6/3 6/4 6/5 20 22 23 24 256 257"),
     (
         "receiver",
@@ -92,11 +93,14 @@ const REFUSALS: [(&str, &str); 8] = [
     ),
 ];
 
+/// The area of plan_even.
+pub const EVEN_PLANNER: &str = "even planner";
+
 /// The letter by which an area is asked for.
 fn letter(area: &str) -> char {
     match area {
         "codec" => 'c',
-        "planner" | "frozen check" => 'p',
+        "planner" | EVEN_PLANNER | "frozen check" => 'p',
         "receiver" | "release" | "receivers released" => 'r',
         "train" => 't',
         _ => 's',
@@ -161,7 +165,18 @@ pub const IMPOSSIBLE_AND_CLOCK: &str = "62 and 33 both due";
 pub const CLOCK_AND_CLOSED: &str = "33 and 38 both due";
 pub const FROZEN_SENDER: &str = "senders of frozen plans";
 pub const FULL_SENDER: &str = "senders of 256 segments";
+pub const EVEN_SENDER: &str = "senders of even plans";
+pub const OTHER_PLANNER: &str = "plans changed into the other planner's";
+pub const NEITHER_PLANNER: &str = "plans with a later capacity of neither planner";
 pub const PAST_MESSAGE: &str = "segments of made-up plans that would begin past the message";
+pub const ONE_MORE: &str = "segments of made-up plans with one octet more";
+pub const MORE_THAN_FITS: &str = "made-up plans with one octet more than 255";
+pub const TOO_MANY: &str = "made-up plans of more than 256 segments";
+pub const EVEN_WHOLE: &str = "plans with nothing left over";
+pub const EVEN_LEFT: &str = "plans with octets left over";
+pub const EVEN_TWO: &str = "plans of two segments";
+pub const EVEN_MOST: &str = "plans of 256 segments with octets left over";
+pub const EVEN_LONGER_END: &str = "plans whose End is longer than plan_message's";
 
 /// The last entry of a word and the first of the next: maps whose first missing entry they are.
 pub const WORD_EDGES: [(usize, &str); 6] = [
@@ -173,8 +188,16 @@ pub const WORD_EDGES: [(usize, &str); 6] = [
     (192, "maps with 192 the first missing"),
 ];
 
-const INPUTS: [(&str, &str); 27] = [
+const INPUTS: [(&str, &str); 38] = [
     ("planner", PAST_MESSAGE),
+    ("planner", ONE_MORE),
+    ("planner", MORE_THAN_FITS),
+    ("planner", TOO_MANY),
+    (EVEN_PLANNER, EVEN_WHOLE),
+    (EVEN_PLANNER, EVEN_LEFT),
+    (EVEN_PLANNER, EVEN_TWO),
+    (EVEN_PLANNER, EVEN_MOST),
+    (EVEN_PLANNER, EVEN_LONGER_END),
     ("receiver", FULL_TRAIN),
     ("receiver", LATE_RECEPTION),
     ("receiver", FULL_MAP),
@@ -201,6 +224,9 @@ const INPUTS: [(&str, &str); 27] = [
     ("sender", FULL_MAP),
     ("sender", FROZEN_SENDER),
     ("sender", FULL_SENDER),
+    ("sender", EVEN_SENDER),
+    ("sender", OTHER_PLANNER),
+    ("sender", NEITHER_PLANNER),
 ];
 
 fn receiver_state_name(state: [u8; 4]) -> String {

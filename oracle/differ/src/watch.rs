@@ -27,6 +27,11 @@ pub trait Checker: Default + 'static {
 
     const NAME: &'static str;
 
+    /// The original's side, before any list.
+    fn original() -> Self::Original {
+        Self::Original::default()
+    }
+
     /// Whether a list of calls begins with this op.
     fn opens(op: u8) -> bool;
 
@@ -45,7 +50,7 @@ pub trait Checker: Default + 'static {
     /// A probe to make before or after a call, now and then.
     fn any_probe(&self, random: &mut Random, next: Option<&Case>) -> Option<Case>;
 
-    /// A probe with a call that the original has not, to make after a call, now and then.
+    /// A probe of a change request, to make after a call, now and then.
     fn any_other(&self, _: &mut Random, _: &Case) -> Option<Case> {
         None
     }
@@ -71,7 +76,7 @@ pub type Shared = Rc<RefCell<Sheet>>;
 struct Watch<C> {
     checker: C,
     random: Random,
-    /// Calls that the original has not are chosen apart, so that the probes of a seed stay as they are without them.
+    /// The probes of change requests are chosen apart, so that the others of a seed stay as they are without them.
     others: Random,
     list: Vec<Case>,
     sheet: Shared,
@@ -164,7 +169,7 @@ pub fn watch<C: Checker>(sheet: &Shared, seed: u64, make: impl Fn(&mut Recorder<
         list: Vec::new(),
         sheet: sheet.clone(),
     };
-    let mut recorder = Recorder::watched(C::Original::default(), seed, Box::new(watch));
+    let mut recorder = Recorder::watched(C::original(), seed, Box::new(watch));
     make(&mut recorder);
 }
 
@@ -175,7 +180,7 @@ pub fn replay<C: Checker>(list: &[Case]) -> Option<(usize, String)> {
         return None;
     }
     let played = panic::catch_unwind(AssertUnwindSafe(|| {
-        let mut original = C::Original::default();
+        let mut original = C::original();
         let mut checker = C::default();
         let mut table = Table::default();
         for (place, case) in list.iter().enumerate() {

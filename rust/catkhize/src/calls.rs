@@ -42,6 +42,17 @@ mod c {
             plan: *mut u8,
             plan_octets: usize,
         ) -> u32;
+        pub fn catkhize_plan_even(
+            message: *const u8,
+            message_octets: usize,
+            budget: u64,
+            transaction: u8,
+            window: u8,
+            version: u8,
+            ceiling: u64,
+            plan: *mut u8,
+            plan_octets: usize,
+        ) -> u32;
         pub fn catkhize_plan_segment(
             plan: *const u8,
             plan_octets: usize,
@@ -306,6 +317,29 @@ pub fn plan_message(
     plan: &mut [u8],
 ) -> u32 {
     call!(catkhize_plan_message(
+        message.as_ptr(),
+        message.len(),
+        budget,
+        transaction,
+        window,
+        version,
+        ceiling,
+        plan.as_mut_ptr(),
+        plan.len(),
+    ))
+}
+
+/// Plans them as [`plan_message`] does, but the later ones of even length.
+pub fn plan_even(
+    message: &[u8],
+    budget: u64,
+    transaction: u8,
+    window: u8,
+    version: u8,
+    ceiling: u64,
+    plan: &mut [u8],
+) -> u32 {
+    call!(catkhize_plan_even(
         message.as_ptr(),
         message.len(),
         budget,

@@ -80,7 +80,7 @@ mod segment;
 mod sender;
 
 pub use link::{HigherLayerProtocol, MobileIdentity};
-pub use plan::{MessagePlan, SegmentedMessage, plan_message};
+pub use plan::{MessagePlan, SegmentedMessage, plan_even, plan_message};
 pub use receiver::{Receiver, ReceiverState, Reception, Reported, Train};
 pub use refusal::{Given, Refusal};
 pub use response::{AcknowledgmentMap, Missing, OptionalServicesSupport, Response, Status};

@@ -3,7 +3,7 @@ use crate::{AcknowledgmentWindow, Given, Refusal, Segment, calls, layout};
 
 const MAX_SEGMENTS: usize = 256;
 
-/// What [`plan_message`] gives.
+/// What a planner, [`plan_message`] or [`plan_even`], gives.
 ///
 /// ```
 /// use catkhize::*;
@@ -51,16 +51,65 @@ pub fn plan_message(
     version: u8,
     ceiling: u64,
 ) -> Result<MessagePlan<'_>, Refusal> {
+    planned(message, |record| {
+        calls::plan_message(
+            message,
+            payload_budget_octets,
+            transaction_id,
+            acknowledgment_window as u8,
+            version,
+            ceiling,
+            record,
+        )
+    })
+}
+
+/// Cuts a message as [`plan_message`] does, but with later segments of even length: for modems that drop a very short End.
+///
+/// The Begin and the number of segments are those that [`plan_message`] gives; the octets behind the Begin's are spread over the later
+/// segments, the End among them, so that no two of these differ by more than an octet, the longer ones first. No least length is set. It
+/// is refused, and gives [`MessagePlan::Unsegmented`], exactly where [`plan_message`] is and does.
+///
+/// ```
+/// use catkhize::*;
+/// let lengths = |plan: MessagePlan<'_>| {
+///     let MessagePlan::Segmented(plan) = plan else { panic!("8 octets are more than 6") };
+///     (0..=255).map_while(|i| plan.segment(i)).map(|s| s.segment_data.len()).collect::<Vec<_>>()
+/// };
+/// let window = AcknowledgmentWindow::Prohibited;
+/// assert_eq!(lengths(plan_even(b"01234567", 6, 0, window, 1, 6)?), [1, 3, 2, 2]);
+/// assert_eq!(lengths(plan_message(b"01234567", 6, 0, window, 1, 6)?), [1, 3, 3, 1]);
+/// assert_eq!(plan_even(&[0; 257], 4, 0, window, 1, 4), Err(Refusal::SEGMENT_COUNT));
+/// # Ok::<(), Refusal>(())
+/// ```
+pub fn plan_even(
+    message: &[u8],
+    payload_budget_octets: u64,
+    transaction_id: u8,
+    acknowledgment_window: AcknowledgmentWindow,
+    version: u8,
+    ceiling: u64,
+) -> Result<MessagePlan<'_>, Refusal> {
+    planned(message, |record| {
+        calls::plan_even(
+            message,
+            payload_budget_octets,
+            transaction_id,
+            acknowledgment_window as u8,
+            version,
+            ceiling,
+            record,
+        )
+    })
+}
+
+/// What a planner's call says of the message and writes to a record.
+fn planned(
+    message: &[u8],
+    call: impl FnOnce(&mut [u8]) -> u32,
+) -> Result<MessagePlan<'_>, Refusal> {
     let mut record = vec![0; layout::PLAN];
-    let given = calls::plan_message(
-        message,
-        payload_budget_octets,
-        transaction_id,
-        acknowledgment_window as u8,
-        version,
-        ceiling,
-        &mut record,
-    );
+    let given = call(&mut record);
     Ok(if Given::new(given).done()? {
         MessagePlan::Segmented(SegmentedMessage { record, message })
     } else {

@@ -140,6 +140,52 @@ fn plans() {
     assert!(untouched(&record));
 }
 
+/// An even plan as octets and as a type, and a sender of it, sent to its end.
+#[test]
+fn even_plans() {
+    let message = b"01234567";
+    let mut record = filled(layout::PLAN);
+    assert_eq!(calls::plan_even(message, 8, 2, 0, 1, 8, &mut record), 1);
+    let window = calls::plan_even(message, 6, 2, 6, 1, 6, &mut record);
+    assert_eq!(refusal(window), Refusal::NUMBER_NAMES_NONE);
+    let budget = calls::plan_even(message, 6, 2, 0, 1, 5, &mut record);
+    assert_eq!(refusal(budget), Refusal::PAYLOAD_BUDGET);
+    let short = calls::plan_even(message, 6, 2, 0, 1, 6, &mut record[..layout::PLAN - 1]);
+    assert_eq!(refusal(short), Refusal::BUFFER_TOO_SHORT);
+    assert!(untouched(&record));
+    assert_eq!(calls::plan_even(message, 6, 2, 0, 1, 6, &mut record), 0);
+    let parts: Vec<(u64, u64)> = (0..4)
+        .map(|index| {
+            let mut answer = filled(layout::PART);
+            assert_eq!(calls::plan_segment(&record, index, &mut answer), 0);
+            (number(&answer[23..]), number(&answer[15..23]))
+        })
+        .collect();
+    assert_eq!(parts, [(0, 1), (1, 3), (4, 2), (6, 2)]);
+    assert_eq!(
+        calls::plan_segment(&record, 4, &mut filled(layout::PART)),
+        1
+    );
+
+    let prohibited = AcknowledgmentWindow::Prohibited;
+    let Ok(MessagePlan::Segmented(plan)) = plan_even(message, 6, 2, prohibited, 1, 6) else {
+        panic!("8 octets are more than 6");
+    };
+    assert!(plan.record() == record);
+    let mut sender = Sender::try_new(PEER, PROTOCOL, &plan, 1, 9, 0).expect("a planner's plan");
+    let mut sent: Vec<&[u8]> = Vec::new();
+    while let Ok(Some(submission)) = sender.submission() {
+        sent.push(submission.segment.segment_data);
+        assert!(sender.submitted(&submission, 10, 10).is_ok());
+        assert!(sender.accepted(&submission, 10).is_ok());
+    }
+    assert_eq!(sent, [b"0".as_slice(), b"123", b"45", b"67"]);
+    assert_eq!(
+        sender.state(),
+        SenderState::Complete(Completion::LowerLayerAccepted)
+    );
+}
+
 #[test]
 fn frozen() {
     let record = plan(0);
@@ -775,6 +821,7 @@ fn empty_buffers() {
         calls::encode(&[], &[], 1, a, none),
         calls::decode(&[], 1, none),
         calls::plan_message(&[], 0, 0, 0, 0, 0, none),
+        calls::plan_even(&[], 0, 0, 0, 0, 0, none),
         calls::plan_segment(&[], 0, none),
         calls::try_from_frozen(&[], 0, &[], &[], 0, 0, 0, none),
         calls::receiver_new(none, origin(), 0, 0, 0, 0),
@@ -831,6 +878,7 @@ fn odd_arguments() {
     }
     for (budget, ceiling) in [(0, 0), (3, u64::MAX), (258, 258), (u64::MAX, u64::MAX)] {
         let _ = plan_message(&long, budget, 9, AcknowledgmentWindow::Every16, 0, ceiling);
+        let _ = plan_even(&long, budget, 9, AcknowledgmentWindow::Every16, 0, ceiling);
     }
     let mut receiver =
         Receiver::try_new(PEER, PROTOCOL, 7, 1, u64::MAX, u64::MAX).expect("a right peer");

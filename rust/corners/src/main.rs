@@ -1,8 +1,9 @@
 //! The corners of document 01 and the boundary of each refusal, run on the exports and compared with what document 01 says (document 02 of
-//! release, docs/EXPORTS.md of the exports' own refusals), a line for each group. A case that comes out otherwise is printed, and the
-//! status is then 1.
+//! release and the even planner, docs/EXPORTS.md of the exports' own refusals), a line for each group. A case that comes out otherwise is
+//! printed, and the status is then 1.
 
 mod codec;
+mod even;
 mod octets;
 mod own;
 mod plan;

@@ -121,6 +121,25 @@ pub fn end(transaction: u8, sequence: u8, length: Option<u16>, crc: Option<Messa
     segment([transaction, sequence, 2], length, None, crc)
 }
 
+/// The segments of a train whose Begin states this length, or none, and asks for this window, each with so many data octets.
+pub fn train(
+    transaction: u8,
+    length: Option<u16>,
+    asked: AcknowledgmentWindow,
+    data: &[u64],
+) -> Vec<(Segment, u64)> {
+    let services = window(asked).filter(|_| asked != AcknowledgmentWindow::Prohibited);
+    let last = data.len() - 1;
+    let segment = |index: usize| match index {
+        0 => begin(transaction, length, services),
+        _ if index == last => end(transaction, index as u8, None, None),
+        _ => later(transaction, index as u8, None),
+    };
+    let data = data.iter().enumerate();
+    data.map(|(index, octets)| (segment(index), *octets))
+        .collect()
+}
+
 /// The segment with another sequence.
 pub fn placed(segment: Segment, sequence: u8) -> Segment {
     let mut segment = segment;

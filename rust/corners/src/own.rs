@@ -62,7 +62,7 @@ struct Entry {
     named: Option<Named>,
 }
 
-const ENTRIES: [Entry; 18] = [
+const ENTRIES: [Entry; 19] = [
     Entry {
         call: |l| {
             let [segment, .., answer] = &mut l.buffers;
@@ -84,6 +84,24 @@ const ENTRIES: [Entry; 18] = [
         call: |l| {
             let plan = &mut l.buffers[PLAN];
             calls::plan_message(
+                MESSAGE,
+                BUDGET,
+                TRANSACTION,
+                l.window,
+                l.version,
+                BUDGET,
+                plan,
+            )
+        },
+        answer: 0,
+        lent: &[PLAN],
+        read: &[],
+        named: Some(Named::Window),
+    },
+    Entry {
+        call: |l| {
+            let plan = &mut l.buffers[PLAN];
+            calls::plan_even(
                 MESSAGE,
                 BUDGET,
                 TRANSACTION,

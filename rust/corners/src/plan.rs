@@ -1,11 +1,16 @@
-//! The corners of the planner and of the frozen check of document 01, and the boundary of each of their refusals.
+//! The corners of the planner and of the frozen check of document 01 and of the even planner of document 02, and the boundary of each of
+//! their refusals.
 
+mod even;
 mod frozen;
 mod planning;
 
 use crate::octets::{PAST, Segment, at_front, filled, head};
 use crate::tally::Tally;
 use catkhize::{AcknowledgmentWindow, calls, layout};
+
+/// The entry of a planner.
+pub type Planner = fn(&[u8], u64, u8, u8, u8, u64, &mut [u8]) -> u32;
 
 /// Segments, each with the number of its data octets.
 type Heads<'a> = &'a [(Segment, u64)];
@@ -54,7 +59,7 @@ fn part_octets(segment: Segment, data: u64, offset: u64) -> Vec<u8> {
 }
 
 /// The first index whose segment is not the head there, with its data after those before it; past the heads there is no segment.
-fn wrong_part(plan: &[u8], heads: Heads) -> Option<usize> {
+pub fn wrong_part(plan: &[u8], heads: Heads) -> Option<usize> {
     let mut offset = 0;
     (0..256).find(|index| {
         let wanted = match heads.get(*index) {
@@ -71,5 +76,6 @@ fn wrong_part(plan: &[u8], heads: Heads) -> Option<usize> {
 
 pub fn corners(tally: &mut Tally) {
     planning::corners(tally);
+    even::corners(tally);
     frozen::corners(tally);
 }

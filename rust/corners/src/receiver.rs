@@ -1,6 +1,7 @@
 //! Corners of the receiver: document 01's, the order and the boundaries of its refusals, and what each call leaves, run on hand-made calls.
 
 mod bench;
+mod even;
 mod figures;
 mod impossible;
 mod made;
@@ -29,6 +30,7 @@ pub fn corners(tally: &mut Tally) {
     windows::corners(tally);
     figures::corners(tally);
     trains::corners(tally);
+    even::corners(tally);
     release::corners(tally);
     one_call::corners(tally);
 }

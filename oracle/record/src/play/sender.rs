@@ -32,9 +32,19 @@ pub const CANCEL: u8 = 0x37;
 /// State, deadline, submissions and offer, with which every answer of a sender ends.
 pub const STATE_OCTETS: usize = 32;
 
-#[derive(Default)]
 pub struct Sending {
     pub open: Option<Open>,
+    /// Gives the plan of a list that opens with a message: the original's planner, unless the driver has another.
+    pub plan: fn(&Wanted) -> Option<SegmentedMessage>,
+}
+
+impl Default for Sending {
+    fn default() -> Self {
+        Self {
+            open: None,
+            plan: Wanted::segmented,
+        }
+    }
 }
 
 pub struct Open {
@@ -52,7 +62,7 @@ impl Player for Sending {
         let mut take = Take(input);
         match op {
             OPEN => {
-                let plan = Wanted::take(&mut take).segmented();
+                let plan = (self.plan)(&Wanted::take(&mut take));
                 let plan = plan.expect("the lists open senders with segmented plans");
                 self.open(plan, &Opening::take(&mut take))
             }

@@ -1,9 +1,9 @@
 //! The planner: document 01's corners and the boundary of each refusal. A plan's record is compared whole; its segments, one after
 //! another, have to be the message, each is written and read back, and the frozen check takes them.
 
-use super::{Heads, frozen_plan, part, part_octets, proposed, wrong_part};
+use super::{Heads, Planner, frozen_plan, part, part_octets, proposed, wrong_part};
 use crate::octets::{
-    PAST, Segment, at_front, begin, difference, end, filled, head, later, pattern, refusal, window,
+    PAST, Segment, at_front, begin, difference, end, filled, head, later, pattern, refusal, train,
 };
 use crate::tally::{Group, Tally};
 use catkhize::AcknowledgmentWindow::{self, Every4, Every8, Every16, Exceptions, Last, Prohibited};
@@ -11,23 +11,25 @@ use catkhize::{MessagePlan, calls, layout, plan_message};
 
 const SEED: u8 = 11;
 
-/// What is asked beside the message.
+/// Which planner is asked, and what beside the message.
 #[derive(Clone, Copy)]
-struct Asked {
-    budget: u64,
-    transaction: u8,
-    window: AcknowledgmentWindow,
-    version: u8,
-    ceiling: u64,
+pub struct Asked {
+    pub planner: Planner,
+    pub budget: u64,
+    pub transaction: u8,
+    pub window: AcknowledgmentWindow,
+    pub version: u8,
+    pub ceiling: u64,
 }
 
 /// How a message is cut: how many segments, the data octets of the Begin and of a later one, whether the Begin states the length.
 #[derive(Clone, Copy)]
-struct Cut(u64, u64, u64, bool);
+pub struct Cut(pub u64, pub u64, pub u64, pub bool);
 
 /// A budget and a window, with transaction 5, version 1 and a high ceiling.
-fn ask(budget: u64, window: AcknowledgmentWindow) -> Asked {
+pub fn ask(budget: u64, window: AcknowledgmentWindow) -> Asked {
     Asked {
+        planner: calls::plan_message,
         budget,
         transaction: 5,
         window,
@@ -40,7 +42,7 @@ impl Asked {
     /// What planning the message gives, and the record.
     fn plan(self, message: &[u8]) -> (u32, Vec<u8>) {
         let mut plan = filled(layout::PLAN + PAST);
-        let given = calls::plan_message(
+        let given = (self.planner)(
             message,
             self.budget,
             self.transaction,
@@ -53,7 +55,7 @@ impl Asked {
     }
 
     /// PLAN of a message that is cut so.
-    fn record(self, octets: usize, cut: Cut) -> Vec<u8> {
+    pub fn record(self, octets: usize, cut: Cut) -> Vec<u8> {
         let Cut(count, begin, later, states_length) = cut;
         let mut plan = vec![layout::LAYOUT_VERSION, 0];
         plan.extend((octets as u64).to_be_bytes());
@@ -70,16 +72,11 @@ impl Asked {
     /// The segments of a message that is cut so: the last one has the rest.
     fn heads(self, octets: usize, cut: Cut) -> Vec<(Segment, u64)> {
         let Cut(count, first, each, states_length) = cut;
-        let services = window(self.window).filter(|_| self.window != Prohibited);
+        let mut data = vec![each; count as usize];
+        data[0] = first;
+        data[count as usize - 1] = octets as u64 - first - each * (count - 2);
         let length = states_length.then_some(octets as u16);
-        let mut heads = vec![(begin(self.transaction, length, services), first)];
-        for index in 1..count - 1 {
-            heads.push((later(self.transaction, index as u8, None), each));
-        }
-        let rest = octets as u64 - first - each * (count - 2);
-        let last = end(self.transaction, (count - 1) as u8, None, None);
-        heads.push((last, rest));
-        heads
+        train(self.transaction, length, self.window, &data)
     }
 }
 
@@ -125,17 +122,21 @@ fn freeze(heads: Heads, message: &[u8], asked: Asked) -> (u32, Vec<u8>) {
 }
 
 /// A message of so many octets is cut so.
-fn plans(g: &mut Group, octets: usize, asked: Asked, cut: Cut) {
+pub fn plans(g: &mut Group, octets: usize, asked: Asked, cut: Cut) {
+    comes_out(g, octets, asked, cut, &asked.heads(octets, cut));
+}
+
+/// A message of so many octets has this cut for its record and is cut into these segments.
+pub fn comes_out(g: &mut Group, octets: usize, asked: Asked, cut: Cut, heads: Heads) {
     let message = pattern(octets, SEED);
-    let heads = asked.heads(octets, cut);
     let (planned, plan) = asked.plan(&message);
-    let (accepted, frozen) = freeze(&heads, &message, asked);
-    let wanted_frozen = frozen_plan(&heads, &message, asked.budget, asked.window);
+    let (accepted, frozen) = freeze(heads, &message, asked);
+    let wanted_frozen = frozen_plan(heads, &message, asked.budget, asked.window);
     g.case(
         (
             (planned, difference(&plan, &asked.record(octets, cut))),
-            wrong_part(&plan, &heads),
-            stuck(&heads, &message, asked),
+            wrong_part(&plan, heads),
+            stuck(heads, &message, asked),
             (accepted, difference(&frozen, &wanted_frozen)),
         ),
         ((0, None), None, None, (0, None)),
@@ -150,12 +151,12 @@ fn leaves(g: &mut Group, octets: usize, asked: Asked, number: u32) {
 }
 
 /// A message of so many octets stays whole.
-fn unsegmented(g: &mut Group, octets: usize, asked: Asked) {
+pub fn unsegmented(g: &mut Group, octets: usize, asked: Asked) {
     leaves(g, octets, asked, 1);
 }
 
 /// Planning a message of so many octets gives refusal n/m.
-fn refuses(g: &mut Group, octets: usize, asked: Asked, n: u32, m: u32) {
+pub fn refuses(g: &mut Group, octets: usize, asked: Asked, n: u32, m: u32) {
     leaves(g, octets, asked, refusal(n, m));
 }
 
@@ -227,13 +228,12 @@ fn transactions_and_versions(g: &mut Group) {
 }
 
 /// 20, Unsegmented, version, transaction, 21, 22.
-fn order(g: &mut Group) {
+pub fn order(g: &mut Group, ask: fn(u64, AcknowledgmentWindow) -> Asked) {
     let worst = Asked {
-        budget: 4,
         transaction: 8,
-        window: Every4,
         version: 0,
         ceiling: 3,
+        ..ask(4, Every4)
     };
     let within = Asked {
         ceiling: 4,
@@ -304,8 +304,8 @@ fn hand_made(g: &mut Group, octets: usize, cut: Cut, index: u8, wanted: Option<P
     g.case(part(&plan, usize::from(index)), wanted);
 }
 
-/// A record that no planner gives has segment i where i is below its count, no capacity passes 255, and the segment begins within the
-/// message: at its end still, with no data.
+/// A record that no planner gives has segment i where i is below its count, its count is at most 256, no capacity passes 255, and the
+/// segment begins within the message: at its end still, with no data.
 fn hand_made_segments(g: &mut Group) {
     let full = Cut(256, 255, 255, false);
     let last = |data, offset| Some(Part(end(5, 255, None, None), data, offset));
@@ -314,7 +314,6 @@ fn hand_made_segments(g: &mut Group) {
     hand_made(g, 65_025, full, 255, last(0, 65_025));
     hand_made(g, 65_026, full, 255, last(1, 65_025));
     hand_made(g, 65_280, full, 255, last(255, 65_025));
-    hand_made(g, 65_281, full, 255, last(255, 65_025));
 
     let first = |data| Some(Part(begin(5, None, None), data, 0));
     hand_made(g, 0, full, 0, first(0));
@@ -331,14 +330,53 @@ fn hand_made_segments(g: &mut Group) {
     hand_made(g, 4, three, 2, None);
     hand_made(g, 5, three, 2, third(0, 5));
     hand_made(g, 6, three, 2, third(1, 5));
-    hand_made(g, 100, three, 3, None);
+    hand_made(g, 8, three, 2, third(3, 5));
+    hand_made(g, 8, three, 3, None);
 
-    hand_made(g, 1_000, Cut(3, 256, 3, false), 0, None);
-    hand_made(g, 1_000, Cut(3, 2, 256, false), 0, None);
-    hand_made(g, 1_000, Cut(3, 255, 255, false), 2, third(255, 510));
-    hand_made(g, 1_000, Cut(0, 2, 3, false), 0, None);
-    let more = Some(Part(later(5, 255, None), 0, 65_025));
-    hand_made(g, 65_025, Cut(257, 255, 255, false), 255, more);
+    hand_made(g, 8, Cut(3, 256, 3, false), 0, None);
+    hand_made(g, 8, Cut(3, 2, 256, false), 0, None);
+    hand_made(g, 765, Cut(3, 255, 255, false), 2, third(255, 510));
+    hand_made(g, 8, Cut(0, 2, 3, false), 0, None);
+    for index in [0, 1, 255] {
+        hand_made(g, 65_025, Cut(257, 255, 255, false), index, None);
+        hand_made(g, 257, Cut(257, 1, 1, false), index, None);
+        hand_made(g, 0, Cut(u64::MAX, 0, 0, false), index, None);
+    }
+}
+
+/// Where the capacities leave octets of the message, the first later segments have one octet more, as many as there are octets left; where
+/// that would be 256 octets, there is no segment.
+fn left_over_segments(g: &mut Group) {
+    let first = |data| Some(Part(begin(5, None, None), data, 0));
+    let second = |data, offset| Some(Part(later(5, 1, None), data, offset));
+    let third = |data, offset| Some(Part(end(5, 2, None, None), data, offset));
+    let three = Cut(3, 2, 3, false);
+    for octets in [9, 10, 11, 100, usize::MAX] {
+        hand_made(g, octets, three, 0, first(2));
+        hand_made(g, octets, three, 1, second(4, 2));
+        hand_made(g, octets, three, 3, None);
+    }
+    hand_made(g, 9, three, 2, third(3, 6));
+    for octets in [10, 11, 100, usize::MAX] {
+        hand_made(g, octets, three, 2, third(4, 6));
+    }
+
+    let last = |data, offset| Some(Part(end(5, 255, None, None), data, offset));
+    let bare = Cut(256, 0, 0, false);
+    hand_made(g, 1, bare, 1, second(1, 0));
+    hand_made(g, 1, bare, 255, last(0, 1));
+    hand_made(g, 254, bare, 255, last(0, 254));
+    hand_made(g, 255, bare, 255, last(1, 254));
+    hand_made(g, 256, bare, 255, last(1, 254));
+
+    let full = Cut(256, 255, 255, false);
+    hand_made(g, 65_281, full, 0, None);
+    hand_made(g, 65_281, full, 255, None);
+    hand_made(g, 1_000, Cut(3, 255, 255, false), 2, None);
+    hand_made(g, 1_000, Cut(3, 255, 254, false), 2, third(255, 510));
+    hand_made(g, 10, Cut(1, 2, 254, false), 0, first(2));
+    hand_made(g, 10, Cut(1, 2, 255, false), 0, None);
+    hand_made(g, 2, Cut(1, 2, 255, false), 0, first(2));
 }
 
 pub fn corners(tally: &mut Tally) {
@@ -350,7 +388,7 @@ pub fn corners(tally: &mut Tally) {
         "planning: transactions and versions",
         transactions_and_versions,
     );
-    tally.group("planning: each test against the next", order);
+    tally.group("planning: each test against the next", |g| order(g, ask));
     tally.group(
         "planning: each window, around the bare header",
         bare_headers,
@@ -360,5 +398,9 @@ pub fn corners(tally: &mut Tally) {
     tally.group(
         "planning: segments of plans made by hand",
         hand_made_segments,
+    );
+    tally.group(
+        "planning: plans made by hand that leave octets over",
+        left_over_segments,
     );
 }

@@ -3,6 +3,7 @@
 mod bench;
 mod closing;
 mod deadline;
+mod even;
 mod impossible;
 mod lower_layer;
 mod making;
@@ -23,6 +24,7 @@ use crate::tally::Tally;
 pub fn corners(tally: &mut Tally) {
     making::corners(tally);
     plans::corners(tally);
+    even::corners(tally);
     submitting::corners(tally);
     lower_layer::corners(tally);
     deadline::corners(tally);

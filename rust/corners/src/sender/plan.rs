@@ -1,12 +1,13 @@
-//! Plans in octets (PLAN), as plan_message and the frozen check give them and with fields changed.
+//! Plans in octets (PLAN), as the planners and the frozen check give them and with fields changed.
 
 use super::bench::{MESSAGE, TRANSACTION, VERSION};
 use super::record::Octets;
 use crate::octets::{Segment, begin, end, head, later, window};
+use crate::plan::Planner;
 use catkhize::AcknowledgmentWindow::{self, Every4};
 use catkhize::{calls, layout};
 
-/// Offsets of what plan_message gives.
+/// Offsets of what a planner gives.
 pub mod planned {
     pub const MESSAGE_OCTETS: usize = 2;
     pub const BUDGET: usize = 10;
@@ -29,12 +30,12 @@ pub mod frozen {
 
 pub type Plan = Octets<{ layout::PLAN }>;
 
-/// The plan of a message. Where there is none, the octets spell no plan, and no sender is made.
-pub fn plan_at(message: &[u8], budget: u64, window: AcknowledgmentWindow) -> Plan {
+/// What a planner gives for a message. Where that is no plan, the octets spell none, and no sender is made.
+fn given(planner: Planner, message: &[u8], budget: u64, window: AcknowledgmentWindow) -> Plan {
     let mut plan = Plan::UNWRITTEN;
     let window = window as u8;
     let record = &mut plan.0;
-    calls::plan_message(
+    planner(
         message,
         budget,
         TRANSACTION,
@@ -44,6 +45,16 @@ pub fn plan_at(message: &[u8], budget: u64, window: AcknowledgmentWindow) -> Pla
         record,
     );
     plan
+}
+
+/// The plan of a message.
+pub fn plan_at(message: &[u8], budget: u64, window: AcknowledgmentWindow) -> Plan {
+    given(calls::plan_message, message, budget, window)
+}
+
+/// The even plan of a message.
+pub fn even_at(message: &[u8], budget: u64, window: AcknowledgmentWindow) -> Plan {
+    given(calls::plan_even, message, budget, window)
 }
 
 /// A frozen plan of the 14 octets: data lengths 4, 6 and 4, no length stated, window Every4. The budget has room for a length or a CRC in

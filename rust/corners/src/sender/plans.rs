@@ -1,4 +1,4 @@
-//! 40: plans that neither plan_message nor the frozen check gives for the message, one field changed at a time.
+//! 40: plans that no planner and no frozen check gives for the message, one field changed at a time. Those of the even planner are in `even`.
 
 use super::bench::*;
 use super::making::{made, plan};

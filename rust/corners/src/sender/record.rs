@@ -186,6 +186,13 @@ impl Sender {
         }
     }
 
+    /// The PART of what is offered.
+    pub fn offered(&self) -> [u8; layout::PART] {
+        let mut answer = [FILL; layout::SUBMISSION];
+        calls::sender_submission(&self.0, &mut answer);
+        std::array::from_fn(|i| answer[PART + i])
+    }
+
     /// Segment `index` of the record's plan.
     fn part(&self, index: u8) -> [u8; layout::PART] {
         let plan = [&[layout::LAYOUT_VERSION], &self.0[PLAN..]].concat();

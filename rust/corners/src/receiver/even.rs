@@ -1,0 +1,77 @@
+//! Trains of plan_even through a receiver: the Begin, then the End, then the others, of which the last one hands the message over.
+
+use super::bench::run;
+use super::rows::*;
+use crate::even::{Even, all};
+use crate::octets::{Segment, filled, pattern, window};
+use crate::plan::wrong_part;
+use crate::tally::{Group, Tally};
+use catkhize::AcknowledgmentWindow::{self, Every4, Every8, Every16, Exceptions, Prohibited};
+use catkhize::{calls, layout};
+
+const AT: u64 = 1_000;
+
+/// The message whose segment s has the data that the bench gives to slot s.
+fn message(heads: &[(Segment, u64)]) -> Vec<u8> {
+    let slots = (0..=u8::MAX).zip(heads);
+    slots
+        .flat_map(|(s, (_, octets))| pattern(*octets as usize, s))
+        .collect()
+}
+
+/// plan_even cuts the message into the segments that are then received.
+fn planned(g: &mut Group, even: Even, heads: &[(Segment, u64)]) {
+    let mut plan = filled(layout::PLAN);
+    let (budget, window) = (even.budget, even.window as u8);
+    let message = message(heads);
+    let given = calls::plan_even(&message, budget, TRANSACTION, window, 1, budget, &mut plan);
+    g.case((given, wrong_part(&plan, heads)), (0, None));
+}
+
+/// Whether a segment is answered that is held behind the End: where its sequence ends a period. The End is, as it leaves a gap, and the last
+/// one, under the windows that have responses.
+fn answered(window: AcknowledgmentWindow, s: usize, closes: bool) -> bool {
+    let period = match window {
+        Prohibited | Exceptions => return false,
+        Every4 => 4,
+        Every8 => 8,
+        Every16 => 16,
+        _ => usize::MAX,
+    };
+    closes || (s + 1).is_multiple_of(period)
+}
+
+fn deliver(g: &mut Group, even: Even) {
+    let heads = even.heads(TRANSACTION);
+    planned(g, even, &heads);
+    let last = heads.len() - 1;
+    let octets = |s: usize| heads[s].1 as usize;
+    let services = window(even.window).filter(|_| even.window != Prohibited);
+    let mut first = begin(services, octets(0), AT);
+    first.stated = even.states_length.then_some(even.octets as u16);
+    let mut rows = vec![Row::Start(1, even.octets as u64), first.holds()];
+    let mut marks = [1, 0, 0, 0];
+    for s in [last].into_iter().chain(1..last) {
+        marks[s / 64] |= 1 << (s % 64);
+        let call = if s == last { end } else { later };
+        let call = call(s as u8, octets(s), AT);
+        let whole = rows.len() == heads.len();
+        let answers = answered(even.window, s, whole || s == last);
+        let entries = if answers { heads.len() as u16 } else { 0 };
+        let row = if whole {
+            call.hands_over()
+        } else {
+            call.holds()
+        };
+        rows.push(row.marks(entries, marks));
+    }
+    run(g, &[&rows]);
+}
+
+pub fn corners(tally: &mut Tally) {
+    tally.group("receiver: even trains, the End behind the Begin", |g| {
+        for even in all() {
+            deliver(g, even);
+        }
+    });
+}
