@@ -22,7 +22,8 @@
  * catkhize_sender_lower_failed and catkhize_sender_receive_response name below: the record then spells
  * what the machine became. A train keeps what its segments before the refused one did.
  *
- * 'Document 01' is docs/01-scope.md. n/m is its refusal n with field m.
+ * 'Document 01' is docs/01-scope.md with what docs/02-change-requests.md adds to it: 25 is of request
+ * 2026-09. n/m is its refusal n with field m.
  */
 #ifndef CATKHIZE_H
 #define CATKHIZE_H
@@ -69,6 +70,7 @@ extern "C" {
 #define CATKHIZE_REFUSED_SEGMENT_COUNT CATKHIZE_REFUSAL(22, 0)
 #define CATKHIZE_REFUSED_FROZEN_PLAN CATKHIZE_REFUSAL(23, 0)
 #define CATKHIZE_REFUSED_JOINED_LENGTH CATKHIZE_REFUSAL(24, 0)
+#define CATKHIZE_REFUSED_EXCEPTIONS_WINDOW CATKHIZE_REFUSAL(25, 0)
 /* The machines'. */
 #define CATKHIZE_REFUSED_IDENTITY CATKHIZE_REFUSAL(30, 0)
 #define CATKHIZE_REFUSED_SERVICE CATKHIZE_REFUSAL(31, 0)
@@ -271,8 +273,10 @@ extern "C" {
  * leave octets over (message octets less Begin's less (count - 1) * LATER_CAPACITY), so many later
  * segments, the first ones, have one octet more; catkhize_plan_message leaves none over. A plan with octets
  * left over, and a SENDER made of one, are not for a library before 2026-02, which gives no octet more. The
- * frozen part of a plan that a planner makes is 0, and catkhize_sender_new refuses another with 40. Frozen:
- * heads; the planned part is 0. */
+ * frozen part of a plan that a planner makes is 0, and catkhize_sender_new refuses another with 40. It also
+ * refuses with 40 a planned PLAN under Exceptions, which a library before 2026-09 made. The train of one is
+ * accepted by catkhize_try_from_frozen: the HEADs that catkhize_plan_segment gives, the message as joined, and
+ * the PLAN's count and budget. A SENDER that was made of one goes on. Frozen: heads; the planned part is 0. */
 #define CATKHIZE_PLAN_AT_FORM 1u
 #define CATKHIZE_PLAN_AT_MESSAGE_OCTETS 2u /* planned; 64 bits, as all below but where said */
 #define CATKHIZE_PLAN_AT_BUDGET 10u
@@ -425,7 +429,10 @@ uint32_t catkhize_decode(
 /* ---- Plans ---- */
 
 /* Cuts a message into segments of at most budget octets. CATKHIZE_NOTHING: it fits whole and needs no
- * segments; the plan buffer is then as it was, as after a refusal. */
+ * segments; the plan buffer is then as it was, as after a refusal. Exceptions is no window for a new train: a
+ * message that needs segments is refused under it with 25, which comes after 20 and CATKHIZE_NOTHING and
+ * before 1, 6/1, 21 and 22. A train that has it already goes through catkhize_try_from_frozen, and is sent and
+ * received under it. */
 uint32_t catkhize_plan_message(
     const uint8_t *message, size_t message_octets,
     uint64_t budget,
@@ -439,7 +446,8 @@ uint32_t catkhize_plan_message(
  * catkhize_plan_message gives; the octets behind the Begin's are spread over the later segments, the End
  * among them, so that no two of these differ by more than an octet, the longer ones first. For modems that
  * drop a very short End: 8 octets, budget 6, Prohibited are 1, 3, 2, 2 here and 1, 3, 3, 1 there. It sets no
- * least length. It gives CATKHIZE_NOTHING and every refusal exactly where catkhize_plan_message does. */
+ * least length. It gives CATKHIZE_NOTHING and every refusal, 25 too, exactly where catkhize_plan_message
+ * does. */
 uint32_t catkhize_plan_even(
     const uint8_t *message, size_t message_octets,
     uint64_t budget,
@@ -455,8 +463,8 @@ uint32_t catkhize_plan_segment(
     uint8_t index,
     uint8_t *answer, size_t answer_octets); /* PART */
 
-/* Takes a cutting that was made earlier: the first count of 256 heads, whose data stand one after another
- * in joined. Only a true cutting of message is accepted. After a refusal plan is as it was. */
+/* Takes a cutting that was made earlier, under any window: the first count of 256 heads, whose data stand one
+ * after another in joined. Only a true cutting of message is accepted. After a refusal plan is as it was. */
 uint32_t catkhize_try_from_frozen(
     const uint8_t *heads, size_t heads_octets, /* 256 HEADs */
     uint64_t count,

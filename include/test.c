@@ -28,6 +28,7 @@ static unsigned failures;
 static uint8_t record[CATKHIZE_RECEIVER_OCTETS];
 static uint8_t sender[CATKHIZE_SENDER_OCTETS];
 static uint8_t plan[CATKHIZE_PLAN_OCTETS];
+static uint8_t frozen[CATKHIZE_PLAN_OCTETS];
 static uint8_t heads[CATKHIZE_HEADS_OCTETS];
 static uint8_t store[CATKHIZE_STORE_OCTETS + 8u];
 static uint8_t output[CATKHIZE_STORE_OCTETS];
@@ -85,6 +86,7 @@ static void test_numbers(void) {
     uint8_t octets[8];
     CHECK(CATKHIZE_REFUSED_FIELD_BEGIN_SEQUENCE_NUMBER == 1539u);
     CHECK(CATKHIZE_REFUSED_CLOSED == 9728u);
+    CHECK(CATKHIZE_REFUSED_EXCEPTIONS_WINDOW == 6400u);
     CHECK(CATKHIZE_REFUSAL_N(1539u) == 6u && CATKHIZE_REFUSAL_M(1539u) == 3u);
     CHECK(CATKHIZE_IS_REFUSAL(CATKHIZE_REFUSED_VERSION) && !CATKHIZE_IS_REFUSAL(CATKHIZE_NOTHING));
     CHECK(CATKHIZE_REFUSED_BUFFER_TOO_SHORT == 65536u);
@@ -194,16 +196,20 @@ static void test_plan(void) {
     CHECK(untouched(answer, sizeof answer));
 }
 
-/* The plan's own segments, given as a frozen cutting. */
-static void test_frozen(void) {
-    static uint8_t frozen[CATKHIZE_PLAN_OCTETS];
-    static const uint8_t other[7] = {0x30, 0x31, 0x32, 0x33, 0x34, 0x35, 0x37};
+/* The heads of the plan's segments. */
+static void take_heads(uint8_t count) {
     uint8_t i;
     memset(heads, 0, sizeof heads);
-    for (i = 0; i < 3; i++) {
+    for (i = 0; i < count; i++) {
         CHECK(catkhize_plan_segment(plan, sizeof plan, i, answer, sizeof answer) == CATKHIZE_DONE);
         memcpy(heads + CATKHIZE_HEAD_OCTETS * i, answer, CATKHIZE_HEAD_OCTETS);
     }
+}
+
+/* The plan's own segments, given as a frozen cutting. */
+static void test_frozen(void) {
+    static const uint8_t other[7] = {0x30, 0x31, 0x32, 0x33, 0x34, 0x35, 0x37};
+    take_heads(3);
     fill(frozen, sizeof frozen);
     CHECK(catkhize_try_from_frozen(heads, sizeof heads, 3, message, 7, other, 7, 6, 1, 6, frozen, sizeof frozen) == CATKHIZE_REFUSED_FROZEN_PLAN);
     CHECK(catkhize_try_from_frozen(heads, sizeof heads, 3, message, 6, message, 7, 6, 1, 6, frozen, sizeof frozen) == CATKHIZE_REFUSED_JOINED_LENGTH);
@@ -248,6 +254,39 @@ static void test_even(void) {
     cuts(4, even_lengths, even_offsets);
     CHECK(answer[CATKHIZE_SEGMENT_AT_KIND] == CATKHIZE_KIND_END);
     CHECK(catkhize_plan_segment(plan, sizeof plan, 0, answer, sizeof answer) == CATKHIZE_DONE && memcmp(answer, begin, sizeof begin) == 0);
+}
+
+typedef uint32_t planner(const uint8_t *, size_t, uint64_t, uint8_t, uint8_t, uint8_t, uint64_t, uint8_t *, size_t);
+
+/* 25 of a planner, behind 256, 258, 20 and 'nothing to plan' and before 1, 6/1, 21 and 22, which Last has in its place. */
+static void refuses_exceptions(planner *plans) {
+    const uint8_t exceptions = CATKHIZE_WINDOW_EXCEPTIONS;
+    const uint8_t last = CATKHIZE_WINDOW_LAST;
+    uint8_t window;
+    fill(plan, sizeof plan);
+    CHECK(plans(eight, 8, 7, 8, exceptions, 0, 6, plan, sizeof plan - 1) == CATKHIZE_REFUSED_BUFFER_TOO_SHORT);
+    CHECK(plans(eight, 8, 7, 8, 6, 0, 6, plan, sizeof plan) == CATKHIZE_REFUSED_NUMBER_NAMES_NONE);
+    CHECK(plans(eight, 8, 7, 2, exceptions, 1, 6, plan, sizeof plan) == CATKHIZE_REFUSED_PAYLOAD_BUDGET);
+    CHECK(plans(eight, 8, 8, 2, exceptions, 1, 8, plan, sizeof plan) == CATKHIZE_NOTHING);
+    CHECK(plans(eight, 8, 8, 8, exceptions, 0, 8, plan, sizeof plan) == CATKHIZE_NOTHING);
+    CHECK(plans(eight, 8, 7, 2, exceptions, 1, 7, plan, sizeof plan) == CATKHIZE_REFUSED_EXCEPTIONS_WINDOW);
+    CHECK(plans(eight, 8, 7, 2, last, 0, 7, plan, sizeof plan) == CATKHIZE_REFUSED_VERSION);
+    CHECK(plans(eight, 8, 7, 2, exceptions, 0, 7, plan, sizeof plan) == CATKHIZE_REFUSED_EXCEPTIONS_WINDOW);
+    CHECK(plans(eight, 8, 7, 8, last, 1, 7, plan, sizeof plan) == CATKHIZE_REFUSED_FIELD_TRANSACTION_ID);
+    CHECK(plans(eight, 8, 7, 8, exceptions, 1, 7, plan, sizeof plan) == CATKHIZE_REFUSED_EXCEPTIONS_WINDOW);
+    CHECK(plans(eight, 8, 4, 2, last, 1, 7, plan, sizeof plan) == CATKHIZE_REFUSED_HEADER_CAPACITY);
+    CHECK(plans(eight, 8, 4, 2, exceptions, 1, 7, plan, sizeof plan) == CATKHIZE_REFUSED_EXCEPTIONS_WINDOW);
+    CHECK(plans(output, 511, 5, 2, last, 1, 7, plan, sizeof plan) == CATKHIZE_REFUSED_SEGMENT_COUNT);
+    CHECK(plans(output, 511, 5, 2, exceptions, 1, 7, plan, sizeof plan) == CATKHIZE_REFUSED_EXCEPTIONS_WINDOW);
+    CHECK(untouched(plan, sizeof plan));
+    for (window = 0; window < exceptions; window++) {
+        CHECK(plans(eight, 8, 7, 2, window, 1, 7, plan, sizeof plan) == CATKHIZE_DONE && plan[CATKHIZE_PLAN_AT_WINDOW] == window);
+    }
+}
+
+static void test_exceptions(void) {
+    refuses_exceptions(catkhize_plan_message);
+    refuses_exceptions(catkhize_plan_even);
 }
 
 #define PEER 0, 34, 5
@@ -557,11 +596,29 @@ static uint32_t submission(void) {
     return catkhize_sender_submission(sender, sizeof sender, answer, CATKHIZE_SUBMISSION_OCTETS);
 }
 
+/* A sender of a plan of the message. */
+static void open_sender(const uint8_t *of) {
+    fill(sender, sizeof sender);
+    CHECK(catkhize_sender_new(sender, sizeof sender, PEER, PROTOCOL, of, CATKHIZE_PLAN_OCTETS, message, 7, 1, NUMBER, 0) == CATKHIZE_DONE);
+    CHECK(sender[CATKHIZE_SENDER_AT_STATE] == CATKHIZE_SENDER_PREPARED);
+}
+
 static void new_sender(uint8_t window) {
     CHECK(catkhize_plan_message(message, 7, 6, 2, window, 1, 6, plan, sizeof plan) == CATKHIZE_DONE);
+    open_sender(plan);
+}
+
+/* The plan under Exceptions that a library before 2026-09 made of the message: no sender is made of it. Its segments as a frozen plan. */
+static void plan_exceptions(void) {
+    CHECK(catkhize_plan_message(message, 7, 6, 2, CATKHIZE_WINDOW_LAST, 1, 6, plan, sizeof plan) == CATKHIZE_DONE);
+    plan[CATKHIZE_PLAN_AT_WINDOW] = CATKHIZE_WINDOW_EXCEPTIONS;
     fill(sender, sizeof sender);
-    CHECK(catkhize_sender_new(sender, sizeof sender, PEER, PROTOCOL, plan, sizeof plan, message, 7, 1, NUMBER, 0) == CATKHIZE_DONE);
-    CHECK(sender[CATKHIZE_SENDER_AT_STATE] == CATKHIZE_SENDER_PREPARED);
+    CHECK(catkhize_sender_new(sender, sizeof sender, PEER, PROTOCOL, plan, sizeof plan, message, 7, 1, NUMBER, 0) == CATKHIZE_REFUSED_PLAN);
+    CHECK(untouched(sender, sizeof sender));
+    take_heads(3);
+    fill(frozen, sizeof frozen);
+    CHECK(catkhize_try_from_frozen(heads, sizeof heads, 3, message, 7, message, 7, 6, 1, 6, frozen, sizeof frozen) == CATKHIZE_DONE);
+    CHECK(frozen[CATKHIZE_PLAN_AT_FORM] == CATKHIZE_PLAN_FROZEN && frozen[CATKHIZE_PLAN_AT_FROZEN_WINDOW] == CATKHIZE_WINDOW_EXCEPTIONS);
 }
 
 /* Layer 3 takes and accepts what is offered, at the reading 10. */
@@ -631,7 +688,8 @@ static void test_sender_ends(void) {
     CHECK(catkhize_sender_accepted(sender, sizeof sender, NUMBER, 0, 330005, state, sizeof state) == CATKHIZE_REFUSED_STALE_SUBMISSION);
     CHECK(untouched(state, sizeof state) && sender[CATKHIZE_SENDER_AT_STATE] == CATKHIZE_SENDER_FAILED);
 
-    new_sender(CATKHIZE_WINDOW_EXCEPTIONS);
+    plan_exceptions();
+    open_sender(frozen);
     CHECK(catkhize_sender_advance(sender, sizeof sender, 100, state, sizeof state) == CATKHIZE_DONE && state[0] == CATKHIZE_SENDER_PREPARED);
     CHECK(catkhize_sender_advance(sender, sizeof sender, 99, state, sizeof state) == CATKHIZE_REFUSED_CLOCK_REGRESSION);
     CHECK(catkhize_sender_advance(sender, sizeof sender, 100, state, 3) == CATKHIZE_REFUSED_BUFFER_TOO_SHORT);
@@ -639,6 +697,49 @@ static void test_sender_ends(void) {
     CHECK(catkhize_sender_advance(sender, sizeof sender, 100, state, sizeof state) == CATKHIZE_REFUSED_BUFFER_SPELLS_NONE);
     sender[0] = CATKHIZE_LAYOUT_VERSION;
     CHECK(catkhize_sender_cancel(sender, sizeof sender, 100, state, sizeof state) == CATKHIZE_DONE && state[0] == CATKHIZE_SENDER_CANCELLED);
+}
+
+/* Under Exceptions: a train that nothing is answered to, and a sender that completes at its deadline. */
+static void exceptions_complete(void) {
+    uint8_t state[CATKHIZE_STATE_OCTETS];
+    uint64_t ticket;
+    new_receiver(0);
+    for (ticket = 0; ticket < 3; ticket++) {
+        uint8_t offer[CATKHIZE_SUBMISSION_OCTETS];
+        CHECK(submission() == CATKHIZE_DONE);
+        memcpy(offer, answer, sizeof offer);
+        CHECK(offer[CATKHIZE_SUBMISSION_AT_HEAD + CATKHIZE_SEGMENT_AT_WINDOW] == (ticket == 0 ? CATKHIZE_WINDOW_EXCEPTIONS : 0));
+        send_one(ticket);
+        CHECK(receive(offer + CATKHIZE_SUBMISSION_AT_HEAD, message + catkhize_get64(offer + CATKHIZE_SUBMISSION_AT_OFFSET),
+                  (size_t)catkhize_get64(offer + CATKHIZE_SUBMISSION_AT_HEAD + CATKHIZE_HEAD_AT_DATA_LENGTH), 10)
+            == CATKHIZE_DONE);
+        CHECK(zero(answer, CATKHIZE_REPLY_OCTETS) && answer[CATKHIZE_RECEPTION_AT_HANDED_OVER] == (ticket == 2));
+    }
+    CHECK(catkhize_get64(answer + CATKHIZE_RECEPTION_AT_MESSAGE_OCTETS) == 7);
+    CHECK(memcmp(output, message, 7) == 0 && untouched(output + 7, sizeof output - 7));
+    CHECK(submission() == CATKHIZE_NOTHING);
+    CHECK(catkhize_sender_advance(sender, sizeof sender, 330009, state, sizeof state) == CATKHIZE_DONE);
+    CHECK(state[0] == CATKHIZE_SENDER_AWAITING_RESPONSE);
+    CHECK(catkhize_sender_advance(sender, sizeof sender, 330010, state, sizeof state) == CATKHIZE_DONE);
+    CHECK(state[0] == CATKHIZE_SENDER_COMPLETE && state[CATKHIZE_STATE_AT_COMPLETION] == CATKHIZE_COMPLETE_EXCEPTION_INTERVAL_ELAPSED);
+}
+
+/* A frozen train under Exceptions; and a sender that a library before 2026-09 made of a planned one, which goes on. */
+static void test_sender_exceptions(void) {
+    plan_exceptions();
+    open_sender(frozen);
+    exceptions_complete();
+    new_sender(CATKHIZE_WINDOW_LAST);
+    sender[CATKHIZE_SENDER_AT_PLAN + CATKHIZE_PLAN_AT_WINDOW - 1u] = CATKHIZE_WINDOW_EXCEPTIONS;
+    exceptions_complete();
+
+    /* Of an even plan under Exceptions no sender is made either. */
+    CHECK(catkhize_plan_even(eight, 8, 6, 2, CATKHIZE_WINDOW_LAST, 1, 6, plan, sizeof plan) == CATKHIZE_DONE);
+    CHECK(catkhize_sender_new(sender, sizeof sender, PEER, PROTOCOL, plan, sizeof plan, eight, 8, 1, NUMBER, 0) == CATKHIZE_DONE);
+    plan[CATKHIZE_PLAN_AT_WINDOW] = CATKHIZE_WINDOW_EXCEPTIONS;
+    fill(sender, sizeof sender);
+    CHECK(catkhize_sender_new(sender, sizeof sender, PEER, PROTOCOL, plan, sizeof plan, eight, 8, 1, NUMBER, 0) == CATKHIZE_REFUSED_PLAN);
+    CHECK(untouched(sender, sizeof sender));
 }
 
 /* A sender of an even plan, sent to its end. Of the later capacities 1 to 4 those of the planners are taken, 2 and 3. */
@@ -680,6 +781,7 @@ static void run(void) {
     test_plan();
     test_frozen();
     test_even();
+    test_exceptions();
     test_receiver();
     test_receiver_time();
     test_release_refused();
@@ -691,6 +793,7 @@ static void run(void) {
     test_short_answers();
     test_sender();
     test_sender_ends();
+    test_sender_exceptions();
     test_sender_even();
 }
 

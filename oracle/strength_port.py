@@ -90,9 +90,22 @@ error('c19 transaction of two bits', D, 'transaction_id: header % TYPE_PLACE,', 
 error('c20 unparsed octets counted from the data', D, 'unparsed_octets: bytes.len() - at,', 'unparsed_octets: bytes.len() - end,')
 error('c21 length of eleven bits', D, 'const LENGTH_VALUES: u16 = 4096;', 'const LENGTH_VALUES: u16 = 2048;')
 error('c22 a decode that answers 65,535 data octets', D, 'segment_data_length: wide(length),', 'segment_data_length: wide(length) + 65_280,')
+error('c23 window 5 refused', D, '        5 => AcknowledgmentWindow::Exceptions,\n', '')
 
 # ---- planner
 P = 'segmentation/src/plan.rt'
+TEST_20 = '''    if ceiling < payload_budget_octets {
+        return MessagePlan::Refused(PlanningError::PayloadBudget);
+    }
+'''
+TEST_UNSEGMENTED = '''    if message_octets <= payload_budget_octets {
+        return MessagePlan::Unsegmented;
+    }
+'''
+TEST_25 = '''    if is_exceptions(acknowledgment_window) {
+        return MessagePlan::Refused(PlanningError::ExceptionsWindow);
+    }
+'''
 error('p01 a message of the budget is cut', P, 'if message_octets <= payload_budget_octets {', 'if message_octets < payload_budget_octets {')
 error('p02 length stated at one octet less', P, 'minimum_begin_octets(prohibited) + OPTIONAL_WORD_OCTETS < payload_budget_octets', 'minimum_begin_octets(prohibited) + OPTIONAL_WORD_OCTETS <= payload_budget_octets')
 error('p03 255 segments at the most', P, 'if MAX_SEGMENTS <= following {', 'if MAX_SEGMENTS <= following + 1 {')
@@ -100,17 +113,7 @@ error('p04 later segments of 256 octets', P, '''    let later_capacity = smaller
         MAX_SEGMENT_DATA_OCTETS,''', '''    let later_capacity = smaller(
         MAX_SEGMENT_DATA_OCTETS + 1,''')
 error('p05 the count rounded down', P, '(n - 1) / d + 1', 'n / d')
-error('p06 the ceiling tested after Unsegmented', P, '''    if ceiling < payload_budget_octets {
-        return MessagePlan::Refused(PlanningError::PayloadBudget);
-    }
-    if message_octets <= payload_budget_octets {
-        return MessagePlan::Unsegmented;
-    }''', '''    if message_octets <= payload_budget_octets {
-        return MessagePlan::Unsegmented;
-    }
-    if ceiling < payload_budget_octets {
-        return MessagePlan::Refused(PlanningError::PayloadBudget);
-    }''')
+error('p06 the ceiling tested after Unsegmented', P, TEST_20 + TEST_UNSEGMENTED, TEST_UNSEGMENTED + TEST_20)
 error('p07 the last segment is a Continue', P, 'if index + 1 == self.count {', 'if index == self.count {')
 error('p08 offsets of equal segments', P, '        self.begin_octets + before\n', '        self.later_capacity + before\n')
 error('p09 a segment that begins past the message', P, 'if self.message_octets < offset {', 'if self.count < index {')
@@ -134,6 +137,38 @@ error('p16 a share of the whole message', P, '(self.message_octets - self.begin_
 error('p17 one octet more beside 255', P, 'if MAX_SEGMENT_DATA_OCTETS < self.later_capacity + smaller(1, self.longer()) {', 'if MAX_SEGMENT_DATA_OCTETS < self.later_capacity {')
 error('p18 segments of a plan of 257', P, 'if MAX_SEGMENTS < self.count {', 'if MAX_SEGMENTS < index {')
 error('p19 plan_even is plan_message', 'plan_c/src/lib.rt', 'let given = plan_even(', 'let given = plan_message(')
+error('p20 25 before Unsegmented', P, TEST_UNSEGMENTED + TEST_25, TEST_25 + TEST_UNSEGMENTED)
+error('p21 25 before 20', P, TEST_20, '''    if payload_budget_octets < message_octets && is_exceptions(acknowledgment_window) {
+        return MessagePlan::Refused(PlanningError::ExceptionsWindow);
+    }
+''' + TEST_20)
+error('p22 25 behind the codec', P, TEST_25, '', also=[
+    ('    let prohibited = is_prohibited(', TEST_25 + '    let prohibited = is_prohibited(')])
+error('p23 25 behind 21 and 22', P, TEST_25, '', also=[
+    ('    MessagePlan::Segmented(SegmentedMessage {', TEST_25 + '    MessagePlan::Segmented(SegmentedMessage {')])
+error('p24 no 25', P, TEST_25, '')
+error('p25 25 for Last too', P, 'AcknowledgmentWindow::Last => false,', 'AcknowledgmentWindow::Last => true,', 1)
+error('p26 an even planner without 25', P, '''    match plan_message(
+        message,
+        payload_budget_octets,
+        transaction_id,
+        acknowledgment_window,
+''', '''    let window = if is_exceptions(acknowledgment_window) {
+        AcknowledgmentWindow::Last
+    } else {
+        acknowledgment_window
+    };
+    match plan_message(
+        message,
+        payload_budget_octets,
+        transaction_id,
+        window,
+''', also=[('MessagePlan::Segmented(p.evened()),', '''MessagePlan::Segmented(SegmentedMessage {
+            acknowledgment_window,
+            ..p.evened()
+        }),''')])
+error('p27 25 spelled 26', 'plan_c/src/lib.rt', '256 * 25', '256 * 26')
+error('p28 Exceptions named no window', 'plan_c/src/lib.rt', 'const LAST_WINDOW: u8 = 5;', 'const LAST_WINDOW: u8 = 4;')
 
 # ---- frozen check
 F = 'segmentation/src/frozen.rt'
@@ -161,6 +196,16 @@ error('f07 23 in place of 24', F, '''    if !sums_to(heads, count, joined.len())
         return refused(PlanningError::FrozenPlan);
     }''')
 error('f08 stated lengths of later segments unread', F, 'if states_other(length_in(kind), message_octets) {', 'if index == 0 && states_other(length_in(kind), message_octets) {')
+error('f09 a frozen check that refuses Exceptions', F, '''    if !are_plain(optional) {
+''', '''    let exceptions = match optional.acknowledgment_window {
+        AcknowledgmentWindow::Exceptions => true,
+        _ => false,
+    };
+    if exceptions {
+        return refused(PlanningError::ExceptionsWindow);
+    }
+    if !are_plain(optional) {
+''')
 
 # ---- words, peers, responses
 W, L, Q, O = 'words/src/lib.rt', 'link/src/lib.rt', 'response/src/lib.rt', 'octets/src/lib.rt'
@@ -339,6 +384,15 @@ error('r58 a release that wipes past 65,280', M, '''                wipe(store);
                     octets::wipe(store, store.len());
                 }
                 let standing''')
+error('r59 a Begin under Exceptions unserved', R, '    if has_crc(crc_in(kind)) {\n', '''    let exceptions = match services.acknowledgment_window {
+        tsar::AcknowledgmentWindow::Exceptions => true,
+        _ => false,
+    };
+    if both(is_begin(kind), exceptions) {
+        return Decision::Fails(Stage::Begun, Status::AcknowledgmentWindowUnsupported);
+    }
+    if has_crc(crc_in(kind)) {
+''')
 
 # ---- sender
 K, J, U, V, X, Y = ('sender/src/' + f for f in ('checks.rt', 'marks.rt', 'steps.rt', 'turns.rt', 'lib.rt', 'plans.rt'))
@@ -456,6 +510,22 @@ error('s41 a planned plan with junk in its frozen part taken', Y, 'is_no_frozen(
 error('s42 a 40 that knows plan_message alone', Y, '            same_plan(q.evened(), p)\n', '            false\n')
 error('s43 a 40 that knows plan_even alone', Y, '            if same_plan(q, p) {\n                return true;\n            }\n', '')
 error('s44 40 does not read the later capacity', Y, '    if p.later_capacity != q.later_capacity {\n        return false;\n    }\n', '')
+error('s45 a 40 that takes a planned plan under Exceptions', Y, '''    let window = p.acknowledgment_window;
+    match plan_message(''', '''    let own = p.acknowledgment_window;
+    let window = if crate::state::is_exceptions(own) {
+        AcknowledgmentWindow::Last
+    } else {
+        own
+    };
+    match plan_message(''', also=[('''        MessagePlan::Segmented(q) => {
+''', '''        MessagePlan::Segmented(planned) => {
+            let q = SegmentedMessage {
+                acknowledgment_window: own,
+                ..planned
+            };
+''')])
+error('s46 a 40 that takes no frozen plan under Exceptions', Y, '            is_same_window(given, window)\n', '            !crate::state::is_exceptions(window) && is_same_window(given, window)\n')
+error('s47 62 where a planned plan is under Exceptions', Y, '                    count: p.count,\n', '                    count: if crate::state::is_exceptions(acknowledgment_window) { 0 } else { p.count },\n')
 
 # ---- trains, and what the exports give for themselves
 W, O = 'train_c/src/lib.rt', 'codec_c/src/codes.rt'

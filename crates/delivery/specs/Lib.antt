@@ -1,5 +1,5 @@
 -- Demand 3 (Calls, Delivery, Demand), what a call leaves (Leaves) and the occasions on which a store is wiped (Occasions) are statements. The other
--- files are laws and proofs: of demand 3 up to TrainsRefuted, Left of Leaves, Wiping and OccasionsRefuted of Occasions, AfterRelease of what a
+-- files are laws and proofs: of demand 3 up to ExceptionsServed, Left of Leaves, Wiping and OccasionsRefuted of Occasions, AfterRelease of what a
 -- release gives and leaves.
 pub mod Calls
 pub mod Delivery
@@ -28,6 +28,7 @@ pub mod Witness
 pub mod InOrder
 pub mod Refuted
 pub mod TrainsRefuted
+pub mod ExceptionsServed
 pub mod Left
 pub mod Wiping
 pub mod AfterRelease

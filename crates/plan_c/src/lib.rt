@@ -46,6 +46,7 @@ fn planning_code(e: PlanningError) -> u32
         PlanningError::SegmentCount => 256 * 22,
         PlanningError::FrozenPlan => 256 * 23,
         PlanningError::JoinedLength => 256 * 24,
+        PlanningError::ExceptionsWindow => 256 * 25,
         PlanningError::Codec(error) => error_code(error),
     }
 }

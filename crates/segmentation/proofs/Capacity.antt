@@ -10,7 +10,7 @@ use lib.Dec.{leb, ltb}
 use Rattle.tsar.specs.Rows.{Refusal, refusal, firstOf}
 use Rattle.tsar.specs.Writing.{codecRows}
 use Rattle.tsar.specs.declared.AcknowledgmentWindow.{AcknowledgmentWindow}
-use Rattle.segmentation.specs.Plan.{Planning, unsegmented, refused, segmented, refuses, bareOctets, roundedUp, bareBegin, sizeRows, planOf, planMessage}
+use Rattle.segmentation.specs.Plan.{Planning, unsegmented, refused, segmented, refuses, isExceptions, bareOctets, roundedUp, bareBegin, sizeRows, planOf, planMessage}
 
 -- Begin's bare header is short
 pub bare-most : (p : Bool) → bareOctets p ≤ 5
@@ -37,8 +37,8 @@ codec-first (c ∷ cs) ds d = go (c .0) (codec-first cs ds d)
     go false e = e
 
 -- planMessage step by step
-pub plan-steps : (n budget transaction : ℕ) (w : AcknowledgmentWindow) (version ceiling : ℕ) → planMessage n budget transaction w version ceiling ≡ cond (ltb ceiling budget) (refused (20, 0)) (cond (leb n budget) unsegmented (afterCodec (refusal (codecRows version (bareBegin transaction w) 0)) (firstOf (sizeRows n budget w) (segmented (planOf n budget transaction w)))))
+pub plan-steps : (n budget transaction : ℕ) (w : AcknowledgmentWindow) (version ceiling : ℕ) → planMessage n budget transaction w version ceiling ≡ cond (ltb ceiling budget) (refused (20, 0)) (cond (leb n budget) unsegmented (cond (isExceptions w) (refused (25, 0)) (afterCodec (refusal (codecRows version (bareBegin transaction w) 0)) (firstOf (sizeRows n budget w) (segmented (planOf n budget transaction w))))))
 unfolding planMessage
 plan-steps n budget transaction w version ceiling =
-    ap (λ (d : Planning). cond (ltb ceiling budget) (refused (20, 0)) (cond (leb n budget) unsegmented d))
+    ap (λ (d : Planning). cond (ltb ceiling budget) (refused (20, 0)) (cond (leb n budget) unsegmented (cond (isExceptions w) (refused (25, 0)) d)))
     (codec-first (codecRows version (bareBegin transaction w) 0) (sizeRows n budget w) (segmented (planOf n budget transaction w)))

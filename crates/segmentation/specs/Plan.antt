@@ -7,7 +7,7 @@ use mathlib.Core.Option.{Option, none, some}
 use lib.ListN.{length, take, drop}
 use lib.Dec.{eqb, leb, ltb}
 use Rattle.tsar.specs.Rows.{Refusal, firstOf}
-pub use Rattle.tsar.specs.Kinds.{prohibited}
+pub use Rattle.tsar.specs.Kinds.{prohibited, isExceptions}
 use Rattle.tsar.specs.Layout.{WholeSegment, whole}
 use Rattle.tsar.specs.Writing.{codecRows}
 use Rattle.tsar.specs.declared.Compression.the-variants as compression
@@ -106,11 +106,12 @@ sizeRows n budget w =
     ∷ (ltb 256 (segmentCount n budget (prohibited w)), refused (22, 0))
     ∷ []
 
--- budget, Unsegmented, codec, then 21 and 22
+-- budget, Unsegmented, 25 where the plan would ask for the Exceptions window, codec, then 21 and 22
 abbrev pub planRows : ℕ → ℕ → ℕ → AcknowledgmentWindow → ℕ → ℕ → List (Bool × Planning)
 planRows n budget transaction w version ceiling =
     (ltb ceiling budget, refused (20, 0))
     ∷ (leb n budget, unsegmented)
+    ∷ (isExceptions w, refused (25, 0))
     ∷ (map refuses (codecRows version (bareBegin transaction w) 0) ++ sizeRows n budget w)
 
 -- of the message's length n; the ceiling is the source's MAX_DATA_PAYLOAD_OCTETS

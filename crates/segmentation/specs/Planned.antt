@@ -18,7 +18,7 @@ use Rattle.tsar.specs.declared.AcknowledgmentWindow.{AcknowledgmentWindow}
 use Rattle.tsar.specs.declared.MessageLength.the-variants as len
 use Rattle.segmentation.specs.declared.SegmentedMessage.{SegmentedMessage}
 use Rattle.segmentation.specs.declared.PlannedSegment.the-variants.{Segment as Planned}
-use Rattle.segmentation.specs.Plan.{Planning, unsegmented, refused, segmented, planMessage, evenMessage, planRows, planOf, shareOf, evened, spread, longer, roundedUp, beginData, laterCapacity, prohibited, bareOctets, beginHeader, segmentCount, servicesFor, plannedKind, plannedHead, partStart, partLength, hasSegment, segmentAt, plannedWhole}
+use Rattle.segmentation.specs.Plan.{Planning, unsegmented, refused, segmented, planMessage, evenMessage, planRows, planOf, shareOf, evened, spread, longer, roundedUp, beginData, laterCapacity, prohibited, isExceptions, bareOctets, beginHeader, segmentCount, servicesFor, plannedKind, plannedHead, partStart, partLength, hasSegment, segmentAt, plannedWhole}
 use Rattle.segmentation.specs.Cutting.{Cutting}
 use Rattle.segmentation.specs.Capacities.{Capacities, up-covers, up-some, up-least, part-within, part-short, next-start, last-end, parts-make, later-continues, last-ends, kind-plain, kind-states, kind-length, kind-crc, kind-first, later-header, has-segment}
 
@@ -98,6 +98,7 @@ header-within n budget p h = go (leb n 4095) (ltb (bareOctets p + 2) budget) ref
 pub record Plannable (n budget transaction : ℕ) (w : AcknowledgmentWindow) (version ceiling : ℕ) : Type 0 where
   pub within-ceiling : budget ≤ ceiling
   pub long : budget < n
+  pub asks-none : isExceptions w ≡ false
   pub served : 1 ≤ version
   pub small : transaction ≤ 7
   pub begin-room : bareOctets (prohibited w) ≤ budget
@@ -267,11 +268,12 @@ plannable n budget transaction w version ceiling t =
     record {
       within-ceiling = ltb-false ceiling budget (t 0);
       long = leb-false n budget (t 1);
-      served = ltb-false version 1 (t 2);
-      small = ltb-false 7 transaction (t 3);
-      begin-room = ltb-false budget (bareOctets (prohibited w)) (t 8);
-      later-room = leb-false budget 3 (t 9);
-      not-many = ltb-false 256 (segmentCount n budget (prohibited w)) (t 10);
+      asks-none = t 2;
+      served = ltb-false version 1 (t 3);
+      small = ltb-false 7 transaction (t 4);
+      begin-room = ltb-false budget (bareOctets (prohibited w)) (t 9);
+      later-room = leb-false budget 3 (t 10);
+      not-many = ltb-false 256 (segmentCount n budget (prohibited w)) (t 11);
     }
 
 -- ---- such arguments are planned
@@ -284,7 +286,7 @@ message-given : (n budget transaction : ℕ) (w : AcknowledgmentWindow) (version
 unfolding planMessage
 message-given n budget transaction w version ceiling f =
     first-pass (planRows n budget transaction w version ceiling) (segmented (planOf n budget transaction w))
-    (le-ltb ceiling budget (f .within-ceiling), (lt-leb n budget (f .long), (le-ltb version 1 (f .served), (le-ltb 7 transaction (f .small), (refl, (refl, (refl, (refl, (le-ltb budget (bareOctets (prohibited w)) (f .begin-room), (lt-leb budget 3 (f .later-room), (le-ltb 256 (segmentCount n budget (prohibited w)) (f .not-many), tt)))))))))))
+    (le-ltb ceiling budget (f .within-ceiling), (lt-leb n budget (f .long), (f .asks-none, (le-ltb version 1 (f .served), (le-ltb 7 transaction (f .small), (refl, (refl, (refl, (refl, (le-ltb budget (bareOctets (prohibited w)) (f .begin-room), (lt-leb budget 3 (f .later-room), (le-ltb 256 (segmentCount n budget (prohibited w)) (f .not-many), tt))))))))))))
 
 pub plan-given : (x : Spread) (n budget transaction : ℕ) (w : AcknowledgmentWindow) (version ceiling : ℕ) → Plannable n budget transaction w version ceiling → planning x n budget transaction w version ceiling ≡ segmented (planAs x n budget transaction w)
 plan-given full n budget transaction w version ceiling f = message-given n budget transaction w version ceiling f

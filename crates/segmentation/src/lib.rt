@@ -49,13 +49,15 @@ pub struct FrozenMessage {
     pub acknowledgment_window: AcknowledgmentWindow,
 }
 
-// JoinedLength is 24, which the source has not: the joined data are not as long as the heads say.
+// JoinedLength is 24, which the source has not: the joined data are not as long as the heads say. Nor has it ExceptionsWindow, 25: no planner makes a
+// plan under this window.
 pub enum PlanningError {
     PayloadBudget,
     HeaderCapacity,
     SegmentCount,
     FrozenPlan,
     JoinedLength,
+    ExceptionsWindow,
     Codec(Error),
 }
 

@@ -25,7 +25,7 @@ ghost use mathlib.Core.Path.{_≡_};
 ghost use Prim.Native.Nat.{min, _≤_, _<_};
 ghost use lib.ListN.{length};
 ghost use Rattle.tsar.specs.Rows.{firstOf};
-ghost use Rattle.segmentation.specs.Plan.{prohibited, bareOctets, statesLength, beginHeader, beginData, roundedUp, plannedServices, planOf, segmented, sizeRows, planMessage, shareOf, evened, evenMessage, plannedBy, partStart, partCapacity, partLength, plannedLength, plannedKind, longer, Sized, SegmentSized, segmentAt};
+ghost use Rattle.segmentation.specs.Plan.{prohibited, isExceptions, bareOctets, statesLength, beginHeader, beginData, roundedUp, plannedServices, planOf, segmented, sizeRows, planMessage, shareOf, evened, evenMessage, plannedBy, partStart, partCapacity, partLength, plannedLength, plannedKind, longer, Sized, SegmentSized, segmentAt};
 
 // The smaller of two numbers.
 fn smaller(a: usize, b: usize) -> usize
@@ -52,6 +52,19 @@ fn is_prohibited(window: AcknowledgmentWindow) -> bool
         AcknowledgmentWindow::Every16 => false,
         AcknowledgmentWindow::Last => false,
         AcknowledgmentWindow::Exceptions => false,
+    }
+}
+
+fn is_exceptions(window: AcknowledgmentWindow) -> bool
+    ensures { λ r. ⌜ r ≡ isExceptions window ⌝ }
+{
+    match window {
+        AcknowledgmentWindow::Prohibited => false,
+        AcknowledgmentWindow::Every4 => false,
+        AcknowledgmentWindow::Every8 => false,
+        AcknowledgmentWindow::Every16 => false,
+        AcknowledgmentWindow::Last => false,
+        AcknowledgmentWindow::Exceptions => true,
     }
 }
 
@@ -164,6 +177,9 @@ pub fn plan_message(
     }
     if message_octets <= payload_budget_octets {
         return MessagePlan::Unsegmented;
+    }
+    if is_exceptions(acknowledgment_window) {
+        return MessagePlan::Refused(PlanningError::ExceptionsWindow);
     }
     let begin = Segment {
         transaction_id,

@@ -5,3 +5,5 @@ pub mod Stepping
 pub mod Impossible
 pub mod Turning
 pub mod Given
+pub mod Retired
+pub mod Finished

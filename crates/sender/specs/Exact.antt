@@ -98,7 +98,7 @@ module _ (x : Spread) (p : SegmentedMessage) (n budget transaction : ℕ) (w : A
   own-arguments : Plannable n budget transaction w 1 budget
   own-arguments =
       let a = plan-arguments x n budget transaction w version ceiling p gives in
-      record { within-ceiling = omega arith; long = a .long; served = omega arith; small = a .small; begin-room = a .begin-room; later-room = a .later-room; not-many = a .not-many }
+      record { within-ceiling = omega arith; long = a .long; asks-none = a .asks-none; served = omega arith; small = a .small; begin-room = a .begin-room; later-room = a .later-room; not-many = a .not-many }
 
   given-own : isPlan (ownPlanning x p n) p ≡ true
   given-own =
@@ -250,7 +250,7 @@ module _ (q : Proposal) (wide : length (q .heads) ≡ 256) (ok : frozenRefusal q
       ap (λ (h : SegmentHead). servicesOrDefault (servicesOf (h .segment .kind)) .«acknowledgment_window») (kept-head (q .heads) (q .count) 0 (omega (arith, a .cutting .at-least))) in
       λ i. record { heads = k i; count = q .count; «message_octets» = length (q .message); «payload_budget_octets» = q .budget; «acknowledgment_window» = w i }
 
-  check-given : isFrozen (tryFromFrozen (proposing (frozenOf q) (q .message))) (frozenOf q) ≡ true
+  pub check-given : isFrozen (tryFromFrozen (proposing (frozenOf q) (q .message))) (frozenOf q) ≡ true
   unfolding tryFromFrozen
   check-given =
       ap (λ (r : Option Refusal). isFrozen (checkedAs r own) (frozenOf q)) own-passes ∙ ap (λ (g : FrozenMessage). sameFrozen g (frozenOf q)) own-plan ∙ frozen-same (frozenOf q)

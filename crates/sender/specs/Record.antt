@@ -6,9 +6,9 @@ use lib.Dec.{leb, ltb}
 use Rattle.words.specs.Marks.{marked, allBelow, lowestOf}
 use Rattle.words.specs.declared.Words.{Words}
 use Rattle.words.specs.declared.Found.{Found}
+pub use Rattle.tsar.specs.Kinds.{isExceptions}
 use Rattle.tsar.specs.Rows.{anyOf}
 use Rattle.tsar.specs.declared.AcknowledgmentWindow.{AcknowledgmentWindow}
-use Rattle.tsar.specs.declared.AcknowledgmentWindow.the-variants as window
 use Rattle.segmentation.specs.Frozen.{headAt}
 use Rattle.sender.specs.declared.Deadline.{Deadline}
 use Rattle.sender.specs.declared.Deadline.the-variants as deadline
@@ -86,14 +86,6 @@ planWindow p = elim (p .form) [ form.Planned q ↦ q .«acknowledgment_window» 
 -- a frozen plan's transaction is its first head's
 abbrev pub planTransaction : Plan → ℕ
 planTransaction p = elim (p .form) [ form.Planned q ↦ q .«transaction_id» | form.Frozen ↦ headAt (p .frozen .heads) 0 .segment .«transaction_id» ]
-
-abbrev pub isExceptions : AcknowledgmentWindow → Bool
-isExceptions window.Prohibited = false
-isExceptions window.Every4 = false
-isExceptions window.Every8 = false
-isExceptions window.Every16 = false
-isExceptions window.Last = false
-isExceptions window.Exceptions = true
 
 -- ---- what is pending
 

@@ -61,6 +61,14 @@ prohibited window.Every16 = false
 prohibited window.Last = false
 prohibited window.Exceptions = false
 
+abbrev pub isExceptions : AcknowledgmentWindow → Bool
+isExceptions window.Prohibited = false
+isExceptions window.Every4 = false
+isExceptions window.Every8 = false
+isExceptions window.Every16 = false
+isExceptions window.Last = false
+isExceptions window.Exceptions = true
+
 -- a stated length that is another than n
 abbrev pub statesOther : MessageLength → ℕ → Bool
 statesOther len.Unstated n = false

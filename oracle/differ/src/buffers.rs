@@ -195,8 +195,12 @@ fn changed_plan(area: &mut Area, random: &mut Random, plan: &[u8]) -> Checked {
     part_of(area, &plan, index).map_err(named)
 }
 
+/// Where the form of a PLAN stands, and which is a planner's.
+pub const FORM: usize = 1;
+pub const PLANNED: u8 = 0;
 /// Where the numbers of a planned PLAN stand.
 const MESSAGE_OCTETS: usize = 2;
+pub const WINDOW: usize = 19;
 const BEGIN_OCTETS: usize = 20;
 pub const LATER_CAPACITY: usize = 28;
 const COUNT: usize = 36;

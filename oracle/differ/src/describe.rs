@@ -1,6 +1,7 @@
 //! A call in words, for who reads a disagreement.
 
 use crate::even;
+use crate::exceptions;
 use crate::receiver::{RELEASE, TRAIN};
 use crate::watch::{Case, FIRST_PROBE};
 use record::fields::{take_head, take_peer, take_protocol};
@@ -133,8 +134,12 @@ pub fn describe(case: &Case) -> String {
             let mut check = Frozen::take_fixed(&mut take);
             let opening = Sending::take(&mut take);
             check.take_heads(&mut take);
+            let kept = match exceptions::kept(&check) {
+                Some(_) => "; then the planned plan of the same segments in its record",
+                None => "",
+            };
             format!(
-                "sender try_new: frozen, {}; {}",
+                "sender try_new: frozen, {}; {}{kept}",
                 frozen(&check),
                 sender(&opening)
             )

@@ -11,6 +11,7 @@ mod buffers;
 mod codec;
 mod describe;
 mod even;
+mod exceptions;
 mod made_up;
 mod plans;
 mod receiver;

@@ -1,17 +1,21 @@
 //! Plans: both planners, segment i of a plan, and the frozen check.
 
 use crate::even;
+use crate::exceptions;
 use crate::spell::{self, FILLING, filled};
 use crate::table::{
-    Area, EVEN_LEFT, EVEN_LONGER_END, EVEN_MOST, EVEN_PLANNER, EVEN_TWO, EVEN_WHOLE, Table,
+    Area, BUDGET_AND_WINDOW, EVEN_LEFT, EVEN_LONGER_END, EVEN_MOST, EVEN_PLANNER, EVEN_TWO,
+    EVEN_WHOLE, Table, WINDOW_AND_CAPACITY, WINDOW_AND_CODEC, WINDOW_AND_COUNT, WINDOW_PLAN,
+    WINDOW_WHOLE,
 };
 use crate::watch::{Case, Checked, Checker, given, same, same_given};
 use bts136::l3::tsar::{MessagePlan, Segment, SegmentedMessage};
 use catkhize::{calls, layout};
+use record::fields::EXCEPTIONS;
 use record::octets::{Put, Take, pattern};
 use record::play::plan::{Frozen, MAX_SEGMENTS, PLAN, Plans, Wanted};
 use record::random::Random;
-use record::refusals::Refusal;
+use record::refusals::{PAYLOAD_BUDGET, Refusal};
 
 const PLANNER: &str = "planner";
 const FROZEN_CHECK: &str = "frozen check";
@@ -44,12 +48,28 @@ impl Checker for PlanChecker {
         }
     }
 
-    fn probe(&mut self, _: &mut Plans, _: &Case, _: &mut Table) -> Checked {
-        Ok(())
+    fn probe(&mut self, _: &mut Plans, case: &Case, table: &mut Table) -> Checked {
+        planners(table, &Wanted::take(&mut Take(&case.input)), false)
     }
 
     fn any_probe(&self, _: &mut Random, _: Option<&Case>) -> Option<Case> {
         None
+    }
+
+    /// After a plan under another window, the same under Exceptions. Of these the recorder has only what equality with the original's planner
+    /// does not leave out.
+    fn any_other(&self, _: &mut Random, last: &Case) -> Option<Case> {
+        if last.op != PLAN {
+            return None;
+        }
+        let mut wanted = Wanted::take(&mut Take(&last.input));
+        if wanted.window == EXCEPTIONS {
+            return None;
+        }
+        wanted.window = EXCEPTIONS;
+        let mut input = Vec::new();
+        wanted.put(&mut input);
+        Some(Case { op: PLAN, input })
     }
 }
 
@@ -77,7 +97,10 @@ pub fn port_plan(planner: Planner, wanted: &Wanted, message: &[u8]) -> (u32, Vec
 /// Both planners on a message; and the even train through the frozen check.
 fn planners(table: &mut Table, wanted: &Wanted, all: bool) -> Checked {
     let message = pattern(wanted.message_octets, wanted.seed);
-    let original = wanted.plan();
+    let original = exceptions::planned(wanted);
+    if wanted.window == EXCEPTIONS {
+        window_inputs(table.area(PLANNER), wanted);
+    }
     let found = port_plan(calls::plan_message, wanted, &message);
     planner(table.area(PLANNER), found, &original, spell::planned, all)?;
 
@@ -92,6 +115,19 @@ fn planners(table: &mut Table, wanted: &Wanted, all: bool) -> Checked {
     even_inputs(area, &original);
     let train = even::train(wanted, &original);
     frozen_check(table.area(FROZEN_CHECK), &train, 0, all).map_err(named)
+}
+
+/// What comes before or behind 25, by what the original answers under Exceptions.
+fn window_inputs(area: &mut Area, wanted: &Wanted) {
+    area.input(match wanted.plan() {
+        Ok(MessagePlan::Unsegmented(_)) => WINDOW_WHOLE,
+        Ok(MessagePlan::Segmented(_)) => WINDOW_PLAN,
+        Err(PAYLOAD_BUDGET) if wanted.message_octets <= wanted.budget => return,
+        Err(PAYLOAD_BUDGET) => BUDGET_AND_WINDOW,
+        Err((21, _)) => WINDOW_AND_CAPACITY,
+        Err((22, _)) => WINDOW_AND_COUNT,
+        Err(_) => WINDOW_AND_CODEC,
+    });
 }
 
 /// What an even plan was of: by the original's plan of the same message.

@@ -9,12 +9,12 @@ use crate::made_up;
 use crate::spell::{self, FILLING, Terms, filled};
 use crate::spells;
 use crate::table::{
-    Area, BEGIN_MISSING, FULL_MAP, FULL_MAP_RECEIVED, FULL_TRAIN, LATE_RECEPTION, LONG_MAP_GAPS,
-    LONG_STORE, NONE_MISSING, Table, WIPED, WORD_EDGES,
+    Area, BEGIN_MISSING, EXCEPTIONS_HANDED, FULL_MAP, FULL_MAP_RECEIVED, FULL_TRAIN,
+    LATE_RECEPTION, LONG_MAP_GAPS, LONG_STORE, NONE_MISSING, Table, WIPED, WORD_EDGES,
 };
 use crate::watch::{Case, Checked, Checker, given, same, same_figures, same_given};
 use bts136::l3::broadcast::ProtocolVersion;
-use bts136::l3::tsar::decode_segment;
+use bts136::l3::tsar::{AcknowledgmentWindow, decode_segment};
 use bts136::link::tsar::{Receiver, Reception};
 use catkhize::{calls, layout};
 use record::fields::{take_peer, take_protocol};
@@ -385,8 +385,11 @@ impl Port {
         same("output", &self.output, &self.expected_output)
     }
 
-    fn hand_over(&mut self, message: &[u8], area: &mut Area) {
+    fn hand_over(&mut self, message: &[u8], original: &Receiver, area: &mut Area) {
         self.expected_output[..message.len()].copy_from_slice(message);
+        if original.services().acknowledgment_window == AcknowledgmentWindow::Exceptions {
+            area.input(EXCEPTIONS_HANDED);
+        }
         if message.len() == layout::STORE {
             area.input(FULL_TRAIN);
         }
@@ -419,9 +422,9 @@ impl Port {
             Vec::new()
         };
         if let Some(message) = message {
-            self.hand_over(message, area);
+            self.hand_over(message, original, area);
         } else if case.op == RECEIVE && expected.get(layout::REPLY) == Some(&1) {
-            self.hand_over(&held_message(original), area);
+            self.hand_over(&held_message(original), original, area);
         }
         let reply = if case.op == TRAIN {
             layout::train::RECEPTION

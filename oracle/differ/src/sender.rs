@@ -1,13 +1,15 @@
 //! Senders: every call, with every octet of the record, and what is offered.
 
+use crate::buffers::{FORM, PLANNED, WINDOW};
 use crate::even;
+use crate::exceptions;
 use crate::made_up;
 use crate::plans::{port_frozen, port_plan};
 use crate::spell::{self, FILLING, SENDER_PLAN, Tickets, filled};
 use crate::spells;
 use crate::table::{
-    Area, EVEN_SENDER, FROZEN_SENDER, FULL_MAP, FULL_SENDER, LATE_SUBMISSION, NEITHER_PLANNER,
-    OTHER_PLANNER, Table,
+    Area, EVEN_SENDER, EXCEPTIONS_KEPT, EXCEPTIONS_PLANNED, EXCEPTIONS_SENDER, FROZEN_SENDER,
+    FULL_MAP, FULL_SENDER, LATE_SUBMISSION, NEITHER_PLANNER, OTHER_PLANNER, Table,
 };
 use crate::watch::{Case, Checked, Checker, given, same, same_given};
 use bts136::l3::broadcast::ProtocolVersion;
@@ -16,7 +18,7 @@ use bts136::l3::tsar::{MessagePlan, Segment, SegmentedMessage, plan_message};
 use bts136::link::tsar::{LowerLayerFailure, Sender, SenderFailure, SenderState, Submission};
 use catkhize::calls::{self, Origin};
 use catkhize::layout;
-use record::fields::take_head;
+use record::fields::{EXCEPTIONS, take_head};
 use record::octets::{Put, Take, pattern};
 use record::play::plan::{Frozen, Wanted};
 use record::play::sender::{
@@ -153,6 +155,7 @@ impl Port {
         area: &mut Area,
     ) -> Result<Option<Self>, String> {
         let mut take = Take(&case.input);
+        let mut kept = None;
         let (planned, message, opening) = if case.op == OPEN {
             let wanted = Wanted::take(&mut take);
             let message = pattern(wanted.message_octets, wanted.seed);
@@ -169,6 +172,7 @@ impl Port {
             let opening = Opening::take(&mut take);
             frozen.take_heads(&mut take);
             area.input(FROZEN_SENDER);
+            kept = exceptions::kept(&frozen);
             (port_frozen(&frozen), frozen.message(), opening)
         };
         let (given, plan) = planned;
@@ -206,8 +210,16 @@ impl Port {
         if port.offsets.len() == 256 {
             area.input(FULL_SENDER);
         }
+        if original.sender.plan().acknowledgment_window() == spell::window(EXCEPTIONS) {
+            area.input(EXCEPTIONS_SENDER);
+        }
         let expected = port.expected(original);
         port.compare(&expected, original, area)?;
+        if let Some(plan) = kept {
+            area.input(EXCEPTIONS_KEPT);
+            port.record[SENDER_PLAN..layout::SENDER].copy_from_slice(&plan[1..]);
+            port.plan = plan;
+        }
         Ok(Some(port))
     }
 
@@ -531,6 +543,9 @@ impl Port {
                 _ => {}
             }
         }
+        if expected == 256 * 40 && plan[FORM] == PLANNED && is_planned(&plan, &message) {
+            area.input(EXCEPTIONS_PLANNED);
+        }
         if expected == 0 {
             return same("plan", &record[SENDER_PLAN..], &plan[1..layout::PLAN]);
         }
@@ -539,29 +554,41 @@ impl Port {
 }
 
 /// Whether a planner or the original's frozen check gives the plan that the octets spell, for this message and under some ceiling. The
-/// original's plan, and the same dealt out evenly, are those of the planners.
+/// original's plan, and the same dealt out evenly, are those of the planners; under Exceptions these give none (document 02, 2026-09).
 fn is_plan_of(plan: &[u8], message: &[u8]) -> bool {
-    let mut take = Take(&plan[1..]);
-    if take.take8() == 0 {
-        take.take64();
-        let budget = take.take64();
-        let (transaction, window) = (take.take8(), take.take8());
-        let Ok(budget) = usize::try_from(budget) else {
-            return false;
-        };
-        set_ceiling(budget);
-        let version = ProtocolVersion(1);
-        return match plan_message(message, budget, transaction, spell::window(window), version) {
-            // Under Planned the frozen part is that of no segments.
-            Ok(MessagePlan::Segmented(original)) => {
-                let planned = [spell::planned(&original), spell::evenly(&original)];
-                planned
-                    .iter()
-                    .any(|planned| *planned == plan[..layout::PLAN])
-            }
-            _ => false,
-        };
+    if plan[FORM] == PLANNED {
+        plan[WINDOW] != EXCEPTIONS && is_planned(plan, message)
+    } else {
+        is_frozen(plan, message)
     }
+}
+
+/// Whether it is the original's plan, or the same dealt out evenly.
+fn is_planned(plan: &[u8], message: &[u8]) -> bool {
+    let mut take = Take(&plan[FORM + 1..]);
+    take.take64();
+    let budget = take.take64();
+    let (transaction, window) = (take.take8(), take.take8());
+    let Ok(budget) = usize::try_from(budget) else {
+        return false;
+    };
+    set_ceiling(budget);
+    let version = ProtocolVersion(1);
+    match plan_message(message, budget, transaction, spell::window(window), version) {
+        // Under Planned the frozen part is that of no segments.
+        Ok(MessagePlan::Segmented(original)) => {
+            let planned = [spell::planned(&original), spell::evenly(&original)];
+            planned
+                .iter()
+                .any(|planned| *planned == plan[..layout::PLAN])
+        }
+        _ => false,
+    }
+}
+
+/// Whether the original's frozen check gives it.
+fn is_frozen(plan: &[u8], message: &[u8]) -> bool {
+    let mut take = Take(&plan[FORM + 1..]);
     take.octets(43);
     let count = take.take64();
     take.take64();
@@ -725,16 +752,28 @@ impl Checker for Senders {
         Some(Case { op, input })
     }
 
-    /// After one try_new in two with a planned plan: the plan with another later capacity.
+    /// After try_new with a planned plan: the plan with another later capacity, or under Exceptions.
     fn any_other(&self, random: &mut Random, last: &Case) -> Option<Case> {
         self.port.as_ref()?;
-        if last.op != OPEN || !random.once_in(2) {
+        if last.op != OPEN {
             return None;
         }
-        let wanted = Wanted::take(&mut Take(&last.input));
-        let input = capacity_numbers(random, &wanted)?;
+        let input = if random.once_in(2) {
+            capacity_numbers(random, &Wanted::take(&mut Take(&last.input)))?
+        } else {
+            changed(WINDOW as u64, u64::from(EXCEPTIONS))
+        };
         Some(Case { op: PLAN, input })
     }
+}
+
+/// The numbers of a probe that changes an octet, and nothing else.
+fn changed(at: u64, change: u64) -> Vec<u8> {
+    let mut input = Vec::new();
+    input.put64(at);
+    input.put64(change);
+    input.put64(0);
+    input
 }
 
 /// Another later capacity for the plan of a message, next to what one of the planners gives.
@@ -742,11 +781,7 @@ fn capacity_numbers(random: &mut Random, wanted: &Wanted) -> Option<Vec<u8>> {
     let lengths = even::lengths(&wanted.segmented()?);
     let (full, share) = (wanted.budget - 3, lengths[lengths.len() - 1]);
     let change = random.pick(&[full - 1, full, full + 1, share - 1, share, share + 1]);
-    let mut input = Vec::new();
-    input.put64(LATER_CAPACITY);
-    input.put64(change as u64);
-    input.put64(0);
-    Some(input)
+    Some(changed(LATER_CAPACITY, change as u64))
 }
 
 /// An octet of a plan to change, mostly one that matters, and how the message differs, if it does.

@@ -71,11 +71,11 @@ fn refusal_name(number: u32) -> String {
 }
 
 /// The refusals that a run has to see, by area. 24, 40, 41, 60 to 63 and 256 to 258 lie outside document 01's domain, as no list of calls on
-/// right buffers gives them; the run reaches them with damaged plans, records and buffers.
+/// right buffers gives them; the run reaches them with damaged plans, records and buffers. 25 is document 02's.
 const REFUSALS: [(&str, &str); 9] = [
     ("codec", "1 2 3 4 5 6/1 6/2 6/3 6/4 6/5 7 8 61 256 257"),
-    ("planner", "1 6/1 20 21 22 256 257 258"),
-    (EVEN_PLANNER, "1 6/1 20 21 22 256 258"),
+    ("planner", "1 6/1 20 21 22 25 256 257 258"),
+    (EVEN_PLANNER, "1 6/1 20 21 22 25 256 258"),
     ("frozen check", "1 6/1 6/2 6/3 6/4 6/5 20 22 23 24 256 257"),
     (
         "receiver",
@@ -166,12 +166,23 @@ pub const CLOCK_AND_CLOSED: &str = "33 and 38 both due";
 pub const FROZEN_SENDER: &str = "senders of frozen plans";
 pub const FULL_SENDER: &str = "senders of 256 segments";
 pub const EVEN_SENDER: &str = "senders of even plans";
+pub const EXCEPTIONS_SENDER: &str = "senders under Exceptions";
+pub const EXCEPTIONS_PLANNED: &str =
+    "planned plans under Exceptions that are none of the planners'";
+pub const EXCEPTIONS_KEPT: &str = "senders of planned plans under Exceptions";
+pub const EXCEPTIONS_HANDED: &str = "messages handed over under Exceptions";
 pub const OTHER_PLANNER: &str = "plans changed into the other planner's";
 pub const NEITHER_PLANNER: &str = "plans with a later capacity of neither planner";
 pub const PAST_MESSAGE: &str = "segments of made-up plans that would begin past the message";
 pub const ONE_MORE: &str = "segments of made-up plans with one octet more";
 pub const MORE_THAN_FITS: &str = "made-up plans with one octet more than 255";
 pub const TOO_MANY: &str = "made-up plans of more than 256 segments";
+pub const WINDOW_WHOLE: &str = "messages under Exceptions that need no segments";
+pub const WINDOW_PLAN: &str = "messages under Exceptions that the original plans";
+pub const BUDGET_AND_WINDOW: &str = "20 and 25 both due";
+pub const WINDOW_AND_CODEC: &str = "25 and a refusal of the codec both due";
+pub const WINDOW_AND_CAPACITY: &str = "25 and 21 both due";
+pub const WINDOW_AND_COUNT: &str = "25 and 22 both due";
 pub const EVEN_WHOLE: &str = "plans with nothing left over";
 pub const EVEN_LEFT: &str = "plans with octets left over";
 pub const EVEN_TWO: &str = "plans of two segments";
@@ -188,11 +199,17 @@ pub const WORD_EDGES: [(usize, &str); 6] = [
     (192, "maps with 192 the first missing"),
 ];
 
-const INPUTS: [(&str, &str); 38] = [
+const INPUTS: [(&str, &str); 49] = [
     ("planner", PAST_MESSAGE),
     ("planner", ONE_MORE),
     ("planner", MORE_THAN_FITS),
     ("planner", TOO_MANY),
+    ("planner", WINDOW_WHOLE),
+    ("planner", WINDOW_PLAN),
+    ("planner", BUDGET_AND_WINDOW),
+    ("planner", WINDOW_AND_CODEC),
+    ("planner", WINDOW_AND_CAPACITY),
+    ("planner", WINDOW_AND_COUNT),
     (EVEN_PLANNER, EVEN_WHOLE),
     (EVEN_PLANNER, EVEN_LEFT),
     (EVEN_PLANNER, EVEN_TWO),
@@ -206,6 +223,7 @@ const INPUTS: [(&str, &str); 38] = [
     ("receiver", BEGIN_MISSING),
     ("receiver", LONG_STORE),
     ("receiver", WIPED),
+    ("receiver", EXCEPTIONS_HANDED),
     ("release", RELEASED),
     ("release", FULL_RELEASED),
     ("release", LONG_RELEASED),
@@ -213,6 +231,7 @@ const INPUTS: [(&str, &str); 38] = [
     ("release", SHORT_AND_IMPOSSIBLE),
     ("release", IMPOSSIBLE_AND_CLOCK),
     ("release", CLOCK_AND_CLOSED),
+    ("train", EXCEPTIONS_HANDED),
     ("train", FULL_MAP_RECEIVED),
     ("train", WORD_EDGES[0].1),
     ("train", WORD_EDGES[1].1),
@@ -227,6 +246,9 @@ const INPUTS: [(&str, &str); 38] = [
     ("sender", EVEN_SENDER),
     ("sender", OTHER_PLANNER),
     ("sender", NEITHER_PLANNER),
+    ("sender", EXCEPTIONS_SENDER),
+    ("sender", EXCEPTIONS_PLANNED),
+    ("sender", EXCEPTIONS_KEPT),
 ];
 
 fn receiver_state_name(state: [u8; 4]) -> String {

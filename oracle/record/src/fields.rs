@@ -16,6 +16,9 @@ const NO_CRC: u8 = 0;
 const CRC16: u8 = 1;
 const CRC24: u8 = 2;
 
+/// The window under which no planner of the port makes a plan (document 02, 2026-09).
+pub const EXCEPTIONS: u8 = AcknowledgmentWindow::Exceptions as u8;
+
 pub fn window(number: u8) -> AcknowledgmentWindow {
     match number {
         0 => AcknowledgmentWindow::Prohibited,

@@ -13,6 +13,9 @@ pub const JOINED_LENGTH: Refusal = (24, 0);
 pub const IDENTITY: Refusal = (30, 0);
 pub const MAP_LENGTH: Refusal = (6, 6);
 
+/// The planner's first test.
+pub const PAYLOAD_BUDGET: Refusal = (20, 0);
+
 pub fn answer(refusal: Refusal) -> Vec<u8> {
     vec![REFUSED, refusal.0, refusal.1]
 }
@@ -46,7 +49,7 @@ fn field(name: &str) -> u8 {
 
 pub fn planning(error: PlanningError) -> Refusal {
     match error {
-        PlanningError::PayloadBudget => (20, 0),
+        PlanningError::PayloadBudget => PAYLOAD_BUDGET,
         PlanningError::HeaderCapacity => (21, 0),
         PlanningError::SegmentCount => (22, 0),
         PlanningError::FrozenPlan => (23, 0),

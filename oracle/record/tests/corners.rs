@@ -271,9 +271,15 @@ fn receiver_repeats() {
     }
 }
 
+/// The frozen plan of the same segments, for a message of as many octets as `segmented` has.
+fn frozen(plan: &SegmentedMessage) -> SegmentedMessage {
+    let message = vec![7; plan.message_octets()];
+    let budget = plan.payload_budget_octets();
+    SegmentedMessage::try_from_frozen(plan.segments().to_vec(), &message, budget, V1).unwrap()
+}
+
 /// A sender of two segments, both submitted and accepted at 0.
-fn sent(window: AcknowledgmentWindow) -> Sender {
-    let plan = segmented(13, 12, window);
+fn sent(plan: SegmentedMessage) -> Sender {
     assert_eq!(plan.segments().len(), 2);
     let mut sender = Sender::try_new(PEER, PROTOCOL, plan, V1, 0).unwrap();
     for _ in 0..2 {
@@ -301,19 +307,26 @@ fn respond(sender: &mut Sender, status: Status, now: u64) -> Result<SenderState,
 #[test]
 fn sender_at_the_deadline() {
     let received = Ok(SenderState::Complete(Completion::PeerReceived));
-    let mut first = sent(AcknowledgmentWindow::Every4);
+    let every4 = segmented(13, 12, AcknowledgmentWindow::Every4);
+    let mut first = sent(every4.clone());
     assert_eq!(
         respond(&mut first, Status::Received, SEGMENT_INTERVAL_MS),
         received
     );
-    let mut second = sent(AcknowledgmentWindow::Every4);
+    let mut second = sent(every4);
     let prepared = Ok(SenderState::Prepared);
     assert_eq!(
         respond(&mut second, Status::Continuing, SEGMENT_INTERVAL_MS),
         prepared
     );
     assert_eq!(second.submission().unwrap().segment().sequence_number, 1);
-    let mut third = sent(AcknowledgmentWindow::Exceptions);
+    // Document 02, 2026-09: a plan under Exceptions is a frozen one.
+    let exceptions = frozen(&segmented(13, 12, AcknowledgmentWindow::Exceptions));
+    assert_eq!(
+        exceptions.acknowledgment_window(),
+        AcknowledgmentWindow::Exceptions
+    );
+    let mut third = sent(exceptions);
     let elapsed = Ok(SenderState::Complete(Completion::ExceptionIntervalElapsed));
     assert_eq!(
         respond(&mut third, Status::Continuing, SEGMENT_INTERVAL_MS),

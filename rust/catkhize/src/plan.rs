@@ -38,10 +38,18 @@ pub struct SegmentedMessage<'a> {
 
 /// Cuts a message into segments of at most `payload_budget_octets`, which is at most `ceiling`, the source's MAX_DATA_PAYLOAD_OCTETS.
 ///
+/// Exceptions is no window for a new train: a message that needs segments is refused under it, with [`Refusal::EXCEPTIONS_WINDOW`], after
+/// [`Refusal::PAYLOAD_BUDGET`] and [`MessagePlan::Unsegmented`] and before every other refusal. A train that has it already goes through
+/// [`SegmentedMessage::try_from_frozen`], and is sent and received under it.
+///
 /// ```
 /// use catkhize::*;
 /// let refused = plan_message(&[0; 257], 4, 0, AcknowledgmentWindow::Prohibited, 1, 4);
 /// assert_eq!(refused, Err(Refusal::SEGMENT_COUNT));
+/// let exceptions = AcknowledgmentWindow::Exceptions;
+/// assert_eq!(plan_message(&[0; 257], 4, 0, exceptions, 1, 3), Err(Refusal::PAYLOAD_BUDGET));
+/// assert_eq!(plan_message(&[0; 4], 4, 0, exceptions, 1, 4), Ok(MessagePlan::Unsegmented));
+/// assert_eq!(plan_message(&[0; 257], 4, 0, exceptions, 1, 4), Err(Refusal::EXCEPTIONS_WINDOW));
 /// ```
 pub fn plan_message(
     message: &[u8],
@@ -80,6 +88,8 @@ pub fn plan_message(
 /// assert_eq!(lengths(plan_even(b"01234567", 6, 0, window, 1, 6)?), [1, 3, 2, 2]);
 /// assert_eq!(lengths(plan_message(b"01234567", 6, 0, window, 1, 6)?), [1, 3, 3, 1]);
 /// assert_eq!(plan_even(&[0; 257], 4, 0, window, 1, 4), Err(Refusal::SEGMENT_COUNT));
+/// let exceptions = AcknowledgmentWindow::Exceptions;
+/// assert_eq!(plan_even(&[0; 257], 4, 0, exceptions, 1, 4), Err(Refusal::EXCEPTIONS_WINDOW));
 /// # Ok::<(), Refusal>(())
 /// ```
 pub fn plan_even(
@@ -118,7 +128,7 @@ fn planned(
 }
 
 impl<'a> SegmentedMessage<'a> {
-    /// Takes segments as they were sent earlier. Only a true cutting of the message is accepted.
+    /// Takes segments as they were sent earlier, under any window. Only a true cutting of the message is accepted.
     ///
     /// ```
     /// use catkhize::*;
@@ -130,6 +140,28 @@ impl<'a> SegmentedMessage<'a> {
     /// assert_eq!(plan.segment(1), Some(segments[1]));
     /// let other = SegmentedMessage::try_from_frozen(&segments, b"abd", 5, 1, 5);
     /// assert_eq!(other, Err(Refusal::FROZEN_PLAN));
+    /// # Ok::<(), Refusal>(())
+    /// ```
+    ///
+    /// A train under Exceptions, sent to its end:
+    ///
+    /// ```
+    /// use catkhize::*;
+    /// let services = OptionalServices { acknowledgment_window: AcknowledgmentWindow::Exceptions, ..Default::default() };
+    /// let begin = SegmentKind::Begin { message_length: None, services: Some(services) };
+    /// let end = SegmentKind::End { message_length: None, crc: None };
+    /// let segment = |sequence_number, segment_data, kind| Segment { transaction_id: 2, sequence_number, segment_data, kind };
+    /// let segments = [segment(0, b"ab", begin), segment(1, b"c", end)];
+    /// let plan = SegmentedMessage::try_from_frozen(&segments, b"abc", 7, 1, 7)?;
+    /// assert_eq!(plan.acknowledgment_window(), AcknowledgmentWindow::Exceptions);
+    /// let peer = MobileIdentity { kind: 0, width: 34, value: 1 };
+    /// let mut sender = Sender::try_new(peer, HigherLayerProtocol::Segmented(0), &plan, 1, 9, 0)?;
+    /// while let Some(submission) = sender.submission()? {
+    ///     sender.submitted(&submission, 10, 10)?;
+    ///     sender.accepted(&submission, 10)?;
+    /// }
+    /// assert_eq!(sender.advance(330_009)?, SenderState::AwaitingResponse);
+    /// assert_eq!(sender.advance(330_010)?, SenderState::Complete(Completion::ExceptionIntervalElapsed));
     /// # Ok::<(), Refusal>(())
     /// ```
     pub fn try_from_frozen(

@@ -1,7 +1,7 @@
 use std::error::Error;
 use std::fmt;
 
-/// Why a call was refused: document 01's refusal n/m, or one of the exports' own (256 to 258).
+/// Why a call was refused: document 01's refusal n/m, 25 of document 02 (request 2026-09), or one of the exports' own (256 to 258).
 ///
 /// A refused call changes nothing, but in the late cases that [the crate](crate#refused-calls) names.
 ///
@@ -75,6 +75,8 @@ refusals! {
     FROZEN_PLAN = 23 / 0, "FrozenPlan";
     /// The joined data are not as long as the heads say.
     JOINED_LENGTH = 24 / 0, "JoinedLength";
+    /// A message that needs segments, to be planned under the window Exceptions.
+    EXCEPTIONS_WINDOW = 25 / 0, "ExceptionsWindow";
     /// No peer, or another than the machine's.
     IDENTITY = 30 / 0, "Identity";
     /// No protocol that is served, or another than the machine's.
@@ -167,17 +169,17 @@ impl Given {
 }
 
 impl Refusal {
-    /// Document 01's n.
+    /// n of n/m.
     pub fn number(self) -> u32 {
         self.0 / 256
     }
 
-    /// Document 01's m, or 0 where there is none.
+    /// m of n/m, or 0 where there is none.
     pub fn field(self) -> u32 {
         self.0 % 256
     }
 
-    /// Whether it is one of the exports' own, which document 01 has not: a buffer or a number is wrong, and no lent octet was changed.
+    /// Whether it is one of the exports' own, which the documents have not: a buffer or a number is wrong, and no lent octet was changed.
     ///
     /// ```
     /// use catkhize::Refusal;

@@ -186,15 +186,90 @@ fn even_plans() {
     );
 }
 
+/// 25 of both planners, behind 20 and 'nothing' and before 1, 6/1, 21 and 22, which Last has in its place.
 #[test]
-fn frozen() {
-    let record = plan(0);
+fn exceptions_window() {
+    use Given::{Done, Nothing, Refused};
+    type Planner = fn(&[u8], u64, u8, u8, u8, u64, &mut [u8]) -> u32;
+    let long = filled(511);
+    let exceptions = Refused(Refusal::EXCEPTIONS_WINDOW);
+    let budget = Refused(Refusal::PAYLOAD_BUDGET);
+    let transaction = Refused(Refusal::FIELD_TRANSACTION_ID);
+    // Octets, budget, transaction, version, ceiling; under Exceptions, under Last.
+    let rows = [
+        (8, 7, 8, 0, 6, budget, budget),
+        (8, 8, 8, 0, 8, Nothing, Nothing),
+        (8, 7, 2, 1, 7, exceptions, Done),
+        (8, 7, 2, 0, 7, exceptions, Refused(Refusal::VERSION)),
+        (8, 7, 8, 1, 7, exceptions, transaction),
+        (8, 4, 2, 1, 7, exceptions, Refused(Refusal::HEADER_CAPACITY)),
+        (511, 5, 2, 1, 7, exceptions, Refused(Refusal::SEGMENT_COUNT)),
+    ];
+    for plans in [calls::plan_message as Planner, calls::plan_even] {
+        for (octets, budget, transaction, version, ceiling, under_exceptions, under_last) in rows {
+            let planned = |window: AcknowledgmentWindow| {
+                let mut record = filled(layout::PLAN);
+                let given = plans(
+                    &long[..octets],
+                    budget,
+                    transaction,
+                    window as u8,
+                    version,
+                    ceiling,
+                    &mut record,
+                );
+                assert_eq!(untouched(&record), given != 0);
+                Given::new(given)
+            };
+            assert_eq!(planned(AcknowledgmentWindow::Exceptions), under_exceptions);
+            assert_eq!(planned(AcknowledgmentWindow::Last), under_last);
+        }
+    }
+    assert_eq!(refusal(6400).to_string(), "refusal 25: ExceptionsWindow");
+    let window = AcknowledgmentWindow::Exceptions;
+    for (budget, expected) in [
+        (6, Err(Refusal::EXCEPTIONS_WINDOW)),
+        (7, Ok(MessagePlan::Unsegmented)),
+    ] {
+        assert_eq!(plan_message(MESSAGE, budget, 2, window, 1, 7), expected);
+        assert_eq!(plan_even(MESSAGE, budget, 2, window, 1, 7), expected);
+    }
+}
+
+/// Of a planned record under Exceptions, as a library before 2026-09 made it, no sender is made; of its segments as a frozen plan one is.
+#[test]
+fn exceptions_kept() {
+    let mut record = plan(AcknowledgmentWindow::Last as u8);
+    let [planned, frozen] = layout::plan::WINDOW;
+    record[planned] = AcknowledgmentWindow::Exceptions as u8;
+    let new = |plan: &[u8]| {
+        let mut sender = filled(layout::SENDER);
+        let given = calls::sender_new(&mut sender, origin(), plan, MESSAGE, 1, 9, 100);
+        assert_eq!(untouched(&sender), given != 0);
+        Given::new(given)
+    };
+    assert_eq!(new(&record), Given::Refused(Refusal::PLAN));
+    let mut accepted = filled(layout::PLAN);
+    let heads = heads_of(&record, 3);
+    let given = calls::try_from_frozen(&heads, 3, MESSAGE, MESSAGE, 6, 1, 6, &mut accepted);
+    assert_eq!((given, accepted[frozen]), (0, record[planned]));
+    assert_eq!(new(&accepted), Given::Done);
+}
+
+/// The heads of a plan's first segments.
+fn heads_of(record: &[u8], count: usize) -> Vec<u8> {
     let mut heads = vec![0; layout::HEADS];
-    for (index, head) in heads.chunks_mut(layout::HEAD).take(3).enumerate() {
+    for (index, head) in heads.chunks_mut(layout::HEAD).take(count).enumerate() {
         let mut answer = filled(layout::PART);
-        assert_eq!(calls::plan_segment(&record, index as u8, &mut answer), 0);
+        assert_eq!(calls::plan_segment(record, index as u8, &mut answer), 0);
         head.copy_from_slice(&answer[..layout::HEAD]);
     }
+    heads
+}
+
+#[test]
+fn frozen() {
+    let heads = heads_of(&plan(0), 3);
     let mut frozen = filled(layout::PLAN);
     let check = |count, joined: &[u8], frozen: &mut [u8]| {
         calls::try_from_frozen(&heads, count, joined, MESSAGE, 6, 1, 6, frozen)
@@ -950,6 +1025,16 @@ fn planned(window: AcknowledgmentWindow) -> SegmentedMessage<'static> {
     plan
 }
 
+/// The segments that plan_message gives under Last, with Exceptions in their Begin, as a frozen plan.
+fn frozen_exceptions() -> SegmentedMessage<'static> {
+    let asks = |window| begin(window, Compression::None, CrcStatus::None);
+    let plan = planned(AcknowledgmentWindow::Last);
+    let mut segments: Vec<Segment<'_>> = (0..=255).map_while(|i| plan.segment(i)).collect();
+    assert_eq!(segments[0].kind, asks(AcknowledgmentWindow::Last));
+    segments[0].kind = asks(AcknowledgmentWindow::Exceptions);
+    SegmentedMessage::try_from_frozen(&segments, MESSAGE, 6, 1, 6).expect("a true cutting")
+}
+
 /// The refusals that change a receiver: past the deadline under Prohibited, and an unheld sequence when Complete.
 #[test]
 fn late_receivers() {
@@ -1004,7 +1089,7 @@ fn late_senders() {
         (Err(Refusal::STALE_SUBMISSION), failed)
     );
 
-    let exceptions = planned(AcknowledgmentWindow::Exceptions);
+    let exceptions = frozen_exceptions();
     let made = Sender::try_new(PEER, PROTOCOL, &exceptions, 1, 9, 0);
     let mut sender = made.expect("a right plan");
     for _ in 0..3 {

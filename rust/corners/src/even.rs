@@ -1,10 +1,7 @@
 //! Messages that plan_even cuts, with the data octets of every segment written out: what the corners of planner, sender and receiver share.
 
-use crate::octets::{Segment, train};
-use catkhize::AcknowledgmentWindow::{self, Every4, Every8, Every16, Exceptions, Last, Prohibited};
-
-/// So many segments, one after another, of so many data octets each.
-type Run = (usize, u64);
+use crate::octets::{Run, Segment, lengths, train};
+use catkhize::AcknowledgmentWindow::{self, Every4, Every8, Every16, Last, Prohibited};
 
 /// A message and how it is cut.
 #[derive(Clone, Copy)]
@@ -20,17 +17,10 @@ pub struct Even {
 }
 
 impl Even {
-    /// The data octets of each segment.
-    fn lengths(&self) -> Vec<u64> {
-        let runs = self.runs.iter();
-        runs.flat_map(|(segments, octets)| vec![*octets; *segments])
-            .collect()
-    }
-
     /// The segments in a transaction, each with its data octets.
     pub fn heads(&self, transaction: u8) -> Vec<(Segment, u64)> {
         let length = self.states_length.then_some(self.octets as u16);
-        train(transaction, length, self.window, &self.lengths())
+        train(transaction, length, self.window, &lengths(self.runs))
     }
 }
 
@@ -145,9 +135,9 @@ pub const STATED: [Even; 4] = [
     ),
 ];
 
-/// Each window that has services, with the least budget at which the length is stated and the one below it.
+/// Each window that has services and is planned, with the least budget at which the length is stated and the one below it.
 pub fn windows() -> Vec<Even> {
-    let windows = [Every4, Every8, Every16, Last, Exceptions];
+    let windows = [Every4, Every8, Every16, Last];
     let both = |window| {
         [
             cut(9, 7, window, false, 3, &[(1, 2), (1, 4), (1, 3)]),

@@ -1,9 +1,11 @@
 //! The corners of document 01 and the boundary of each refusal, run on the exports and compared with what document 01 says (document 02 of
-//! release and the even planner, docs/EXPORTS.md of the exports' own refusals), a line for each group. A case that comes out otherwise is
-//! printed, and the status is then 1.
+//! release, the even planner and the planners under Exceptions, docs/EXPORTS.md of the exports' own refusals), a line for each group. A case that
+//! comes out otherwise is printed, and the status is then 1.
 
 mod codec;
 mod even;
+mod exceptions;
+mod exchange;
 mod octets;
 mod own;
 mod plan;
@@ -20,6 +22,7 @@ fn main() -> ExitCode {
     plan::corners(&mut tally);
     receiver::corners(&mut tally);
     sender::corners(&mut tally);
+    exchange::corners(&mut tally);
     own::corners(&mut tally);
     if tally.differ == 0 {
         ExitCode::SUCCESS

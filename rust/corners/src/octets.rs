@@ -121,6 +121,16 @@ pub fn end(transaction: u8, sequence: u8, length: Option<u16>, crc: Option<Messa
     segment([transaction, sequence, 2], length, None, crc)
 }
 
+/// So many segments, one after another, of so many data octets each.
+pub type Run = (usize, u64);
+
+/// The data octets of each segment.
+pub fn lengths(runs: &[Run]) -> Vec<u64> {
+    let runs = runs.iter();
+    runs.flat_map(|(segments, octets)| vec![*octets; *segments])
+        .collect()
+}
+
 /// The segments of a train whose Begin states this length, or none, and asks for this window, each with so many data octets.
 pub fn train(
     transaction: u8,

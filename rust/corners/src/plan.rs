@@ -1,7 +1,8 @@
-//! The corners of the planner and of the frozen check of document 01 and of the even planner of document 02, and the boundary of each of
-//! their refusals.
+//! The corners of the planner and of the frozen check of document 01, of the even planner of document 02 and of both planners under Exceptions,
+//! and the boundary of each of their refusals.
 
 mod even;
+mod exceptions;
 mod frozen;
 mod planning;
 
@@ -13,12 +14,13 @@ use catkhize::{AcknowledgmentWindow, calls, layout};
 pub type Planner = fn(&[u8], u64, u8, u8, u8, u64, &mut [u8]) -> u32;
 
 /// Segments, each with the number of its data octets.
-type Heads<'a> = &'a [(Segment, u64)];
+pub type Heads<'a> = &'a [(Segment, u64)];
 
 /// The octets of a PLAN that only a planned one has.
 const PLANNED: usize = 43;
 
-fn heads_octets(heads: Heads) -> Vec<u8> {
+/// HEAD of each segment.
+pub fn heads_octets(heads: Heads) -> Vec<u8> {
     let heads = heads.iter();
     heads
         .flat_map(|(segment, data)| head(*segment, *data))
@@ -26,7 +28,7 @@ fn heads_octets(heads: Heads) -> Vec<u8> {
 }
 
 /// The 256 heads that the frozen check is given: these, and the last of them again.
-fn proposed(heads: Heads) -> Vec<u8> {
+pub fn proposed(heads: Heads) -> Vec<u8> {
     let mut all = heads.to_vec();
     all.resize(256, heads[heads.len() - 1]);
     heads_octets(&all)
@@ -77,5 +79,6 @@ pub fn wrong_part(plan: &[u8], heads: Heads) -> Option<usize> {
 pub fn corners(tally: &mut Tally) {
     planning::corners(tally);
     even::corners(tally);
+    exceptions::corners(tally);
     frozen::corners(tally);
 }

@@ -1,17 +1,17 @@
 //! Corners of the receiver: document 01's, the order and the boundaries of its refusals, and what each call leaves, run on hand-made calls.
 
-mod bench;
+pub mod bench;
 mod even;
 mod figures;
 mod impossible;
 mod made;
 mod marked;
 mod one_call;
-mod record;
+pub mod record;
 mod refusals;
 mod release;
 mod repeats;
-mod rows;
+pub mod rows;
 mod slots;
 mod timing;
 mod trains;

@@ -41,6 +41,12 @@ enum-told-5 c = search needs
 mul-result-5 : tie.Need-mul-result-5
 mul-result-5 c = search needs
 
+enum-told-6 : tie.Need-enum-told-6
+enum-told-6 c = search needs
+
+mul-result-6 : tie.Need-mul-result-6
+mul-result-6 c = search needs
+
 enum-known-e : tie.Need-enum-known-e
 enum-known-e c = search needs
 
@@ -63,7 +69,10 @@ returns-5 : tie.Need-returns-5
 returns-5 c = ap code (sym (c .enum-told5 .given .1))
 
 returns-6 : tie.Need-returns-6
-returns-6 c = c .error-code .ensures ∙ ap code (sym (c .before .before .e .given .1))
+returns-6 c = ap code (sym (c .enum-told6 .given .1))
+
+returns-7 : tie.Need-returns-7
+returns-7 c = c .error-code .ensures ∙ ap code (sym (c .before .before .e .given .1))
 
 pub planning-code-spec : {M : Type 1} → statement M
 planning-code-spec =
@@ -79,6 +88,8 @@ planning-code-spec =
     mul-result-4
     enum-told-5
     mul-result-5
+    enum-told-6
+    mul-result-6
     enum-known-e
     error-code-requires
     returns
@@ -86,4 +97,5 @@ planning-code-spec =
     returns-3
     returns-4
     returns-5
-    returns-6)
+    returns-6
+    returns-7)

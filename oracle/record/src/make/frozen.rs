@@ -188,8 +188,14 @@ fn planned(random: &mut Random) -> Frozen {
         window: any_window(random),
         version: 1,
     };
-    let plan = wanted.segmented().expect("the budget is large enough");
-    frozen_from(plan.segments(), wanted.seed, budget)
+    train_of(&wanted)
+}
+
+/// The frozen form of what the original's planner makes of a message under version 1.
+pub fn train_of(wanted: &Wanted) -> Frozen {
+    let plan = wanted.segmented();
+    let plan = plan.expect("the message is cut into segments");
+    frozen_from(plan.segments(), wanted.seed, wanted.budget)
 }
 
 /// The frozen form of segments whose joined data are the pattern of `seed`.

@@ -2,15 +2,18 @@
 
 use super::frozen;
 use super::heads::WINDOWS;
+use crate::fields::EXCEPTIONS;
 use crate::list::Recorder;
 use crate::play::plan::{PLAN, Plans, Wanted};
 use crate::random::Random;
+use bts136::l3::tsar::AcknowledgmentWindow;
 
 type Record = Recorder<Plans>;
 
 const MOST_LENGTH_STATED: usize = 4095;
 /// No message of a list is longer.
 pub const LONGEST_MESSAGE: usize = 66_000;
+const LAST: u8 = AcknowledgmentWindow::Last as u8;
 
 pub fn make(record: &mut Record) {
     corners(record);
@@ -19,6 +22,7 @@ pub fn make(record: &mut Record) {
     stated_lengths(record);
     large_budgets(record);
     test_order(record);
+    under_exceptions(record);
     random_plans(record, 1200);
     frozen::make(record);
 }
@@ -36,10 +40,23 @@ fn wanted(message_octets: usize, budget: usize, window: u8) -> Wanted {
     }
 }
 
+/// Records what the planner answers, where equality with it does not leave that out.
 fn plan(record: &mut Record, wanted: &Wanted) {
-    let mut input = Vec::new();
-    wanted.put(&mut input);
-    record.call(PLAN, &input);
+    if !wanted.is_left_out() {
+        let mut input = Vec::new();
+        wanted.put(&mut input);
+        record.call(PLAN, &input);
+    }
+}
+
+/// Under Last where equality with the planner would leave it out.
+fn compared(wanted: Wanted) -> Wanted {
+    let window = if wanted.is_left_out() {
+        LAST
+    } else {
+        wanted.window
+    };
+    Wanted { window, ..wanted }
 }
 
 /// The corners of document 01, section l3/tsar/segmentation.rs.
@@ -104,7 +121,7 @@ fn most_segments(record: &mut Record) {
 
 fn stated_lengths(record: &mut Record) {
     let boundary = MOST_LENGTH_STATED;
-    for window in [0, 5] {
+    for window in [0, LAST] {
         for budget in [
             5, 6, 7, 8, 16, 19, 20, 21, 22, 23, 24, 100, 254, 255, 256, 258, 4093,
         ] {
@@ -148,6 +165,27 @@ fn test_order(record: &mut Record) {
                 let transaction = random.pick(&[0, 7, 8, 255]);
                 let version = random.pick(&[0, 1, 1, 5, 255]);
                 let wanted = wanted(message_octets, budget, random.below(6) as u8);
+                let wanted = compared(Wanted {
+                    ceiling,
+                    transaction,
+                    version,
+                    ..wanted
+                });
+                plan(record, &wanted);
+            }
+        }
+    }
+}
+
+/// What is the original's under Exceptions: 20, and messages that need no segments; with and
+/// without a reason for the codec to refuse.
+fn under_exceptions(record: &mut Record) {
+    for budget in [1, 3, 4, 5, 6, 40] {
+        for (transaction, version) in [(0, 1), (8, 0)] {
+            let whole = [(0, budget), (budget, budget)];
+            let over = [0, budget, budget + 1].map(|octets| (octets, budget - 1));
+            for (message_octets, ceiling) in whole.into_iter().chain(over) {
+                let wanted = wanted(message_octets, budget, EXCEPTIONS);
                 plan(
                     record,
                     &Wanted {
@@ -164,7 +202,7 @@ fn test_order(record: &mut Record) {
 
 fn random_plans(record: &mut Record, count: usize) {
     for _ in 0..count {
-        let wanted = any_plan(&mut record.random);
+        let wanted = compared(any_plan(&mut record.random));
         plan(record, &wanted);
     }
 }

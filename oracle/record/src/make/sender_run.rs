@@ -1,5 +1,6 @@
 //! A sender under test: the calls on it, and what its last answer said.
 
+use super::frozen::train_of;
 use super::receiver_run::{any_peer, any_protocol};
 use crate::fields::MAP_OCTETS;
 use crate::list::{DONE, Recorder};
@@ -57,12 +58,16 @@ pub struct SenderRun<'a> {
 }
 
 impl<'a> SenderRun<'a> {
-    /// Calls try_new with what the planner makes of `wanted`; there is no run where it refuses.
+    /// Calls try_new with what the planner makes of `wanted`, or where equality leaves the planner
+    /// out, with the frozen train of the same segments; there is no run where it refuses.
     pub fn open(
         record: &'a mut Recorder<Sending>,
         wanted: &Wanted,
         opening: Opening,
     ) -> Option<Self> {
+        if wanted.is_left_out() {
+            return Self::open_frozen(record, &train_of(wanted), opening);
+        }
         let plan = wanted
             .segmented()
             .expect("the message is cut into segments");

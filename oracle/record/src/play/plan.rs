@@ -1,9 +1,9 @@
 //! Ops 10 (plan_message) and 11 (frozen check).
 
-use crate::fields::{put_head, put_length, put_services, take_head, window};
+use crate::fields::{EXCEPTIONS, put_head, put_length, put_services, take_head, window};
 use crate::list::{DONE, Player};
 use crate::octets::{Put, Take, adler32, patched, pattern};
-use crate::refusals::{self, JOINED_LENGTH, Refusal};
+use crate::refusals::{self, JOINED_LENGTH, PAYLOAD_BUDGET, Refusal};
 use bts136::l3::broadcast::ProtocolVersion;
 use bts136::l3::relay::set_ceiling;
 use bts136::l3::tsar::{MessagePlan, Segment, SegmentKind, SegmentedMessage, plan_message};
@@ -73,6 +73,16 @@ impl Wanted {
             ProtocolVersion(self.version),
         )
         .map_err(refusals::planning)
+    }
+
+    /// Whether equality with the original's planner leaves this out (document 02, 2026-09): the window
+    /// is Exceptions, and neither 20 nor Unsegmented comes first.
+    pub fn is_left_out(&self) -> bool {
+        self.window == EXCEPTIONS
+            && match self.plan() {
+                Err(refusal) => refusal != PAYLOAD_BUDGET,
+                Ok(plan) => matches!(plan, MessagePlan::Segmented(_)),
+            }
     }
 
     pub fn segmented(&self) -> Option<SegmentedMessage> {

@@ -6,7 +6,7 @@ use crate::octets::{
     PAST, Segment, begin, difference, end, filled, later, placed, refusal, services, window,
 };
 use crate::tally::{Group, Tally};
-use catkhize::AcknowledgmentWindow::{self, Last, Prohibited};
+use catkhize::AcknowledgmentWindow::{self, Exceptions, Last, Prohibited};
 use catkhize::MessageCrc::{Crc16, Crc24};
 use catkhize::{Compression, CrcStatus, calls, layout};
 
@@ -279,6 +279,50 @@ fn order(g: &mut Group) {
     declines(g, heads, NARROW, [MESSAGE, MESSAGE], 20, 0);
 }
 
+/// A Begin that asks for Exceptions is taken as any other, and each refusal stands where it stands else.
+fn exceptions(g: &mut Group) {
+    let [_, second, third] = train();
+    let asking = |length, data| (begin(5, length, window(Exceptions)), data);
+    let bare = [asking(None, 1), second, third];
+    let whole = [MESSAGE, MESSAGE];
+    accepts(g, bare, THREE, MESSAGE, Exceptions);
+    let stated = [asking(Some(7), 1), second, third];
+    accepts(g, stated, WIDE, MESSAGE, Exceptions);
+    let sparse = [asking(None, 4), plain_later(1, 0), third];
+    accepts(g, sparse, WIDE, MESSAGE, Exceptions);
+    let two = Terms {
+        count: 2,
+        budget: 5,
+        version: 1,
+        ceiling: 5,
+    };
+    let empty = [asking(None, 0), plain_end(1, 0), third];
+    accepts(g, empty, two, b"", Exceptions);
+
+    let low = Terms {
+        ceiling: 5,
+        ..THREE
+    };
+    let one = Terms { count: 1, ..THREE };
+    let old = Terms {
+        version: 0,
+        ..THREE
+    };
+    declines(g, bare, low, whole, 20, 0);
+    declines(g, bare, one, [b"a", b"a"], 22, 0);
+    declines(g, bare, THREE, [b"abcdef", MESSAGE], 24, 0);
+    declines(g, bare, old, whole, 1, 0);
+    declines(g, stated, THREE, whole, 20, 0);
+    declines(g, bare, THREE, [b"abcdefG", MESSAGE], 23, 0);
+    let eight = (begin(8, None, window(Exceptions)), 1);
+    says(g, [eight, second, third], 6, 1);
+    let packed = services(Compression::V42Bis, Exceptions, CrcStatus::None);
+    let crc16 = services(Compression::None, Exceptions, CrcStatus::Crc16);
+    for services in [packed, crc16] {
+        says(g, [(begin(5, None, services), 1), second, third], 23, 0);
+    }
+}
+
 pub fn corners(tally: &mut Tally) {
     tally.group("frozen: true cuttings", true_cuttings);
     tally.group("frozen: ceiling, count, sum of the lengths", sizes);
@@ -290,4 +334,5 @@ pub fn corners(tally: &mut Tally) {
     tally.group("frozen: lengths and CRC", parameters);
     tally.group("frozen: data", contents);
     tally.group("frozen: each test against the next", order);
+    tally.group("frozen: a Begin that asks for Exceptions", exceptions);
 }

@@ -6,10 +6,10 @@ use crate::octets::{
     PAST, Segment, at_front, begin, difference, end, filled, head, later, pattern, refusal, train,
 };
 use crate::tally::{Group, Tally};
-use catkhize::AcknowledgmentWindow::{self, Every4, Every8, Every16, Exceptions, Last, Prohibited};
+use catkhize::AcknowledgmentWindow::{self, Every4, Every8, Every16, Last, Prohibited};
 use catkhize::{MessagePlan, calls, layout, plan_message};
 
-const SEED: u8 = 11;
+pub const SEED: u8 = 11;
 
 /// Which planner is asked, and what beside the message.
 #[derive(Clone, Copy)]
@@ -40,7 +40,7 @@ pub fn ask(budget: u64, window: AcknowledgmentWindow) -> Asked {
 
 impl Asked {
     /// What planning the message gives, and the record.
-    fn plan(self, message: &[u8]) -> (u32, Vec<u8>) {
+    pub fn plan(self, message: &[u8]) -> (u32, Vec<u8>) {
         let mut plan = filled(layout::PLAN + PAST);
         let given = (self.planner)(
             message,
@@ -96,7 +96,7 @@ fn travels(segment: Segment, data: &[u8], asked: Asked) -> bool {
 }
 
 /// The first segment that does not travel with its part of the message.
-fn stuck(heads: Heads, message: &[u8], asked: Asked) -> Option<usize> {
+pub fn stuck(heads: Heads, message: &[u8], asked: Asked) -> Option<usize> {
     let mut rest = message;
     heads.iter().position(|(segment, octets)| {
         let (data, after) = rest.split_at(*octets as usize);
@@ -105,8 +105,8 @@ fn stuck(heads: Heads, message: &[u8], asked: Asked) -> Option<usize> {
     })
 }
 
-/// The frozen check on segments that were planned, with the budget for a ceiling.
-fn freeze(heads: Heads, message: &[u8], asked: Asked) -> (u32, Vec<u8>) {
+/// The frozen check on segments, with the budget for a ceiling.
+pub fn freeze(heads: Heads, message: &[u8], asked: Asked) -> (u32, Vec<u8>) {
     let mut plan = filled(layout::PLAN + PAST);
     let given = calls::try_from_frozen(
         &proposed(heads),
@@ -263,7 +263,7 @@ fn bare_headers(g: &mut Group) {
     plans(g, 7, ask(4, Prohibited), Cut(7, 1, 1, false));
     plans(g, 7, ask(5, Prohibited), Cut(4, 2, 2, false));
     plans(g, 7, ask(6, Prohibited), Cut(3, 1, 3, true));
-    for window in [Every4, Every8, Every16, Last, Exceptions] {
+    for window in [Every4, Every8, Every16, Last] {
         refuses(g, 9, ask(4, window), 21, 0);
         plans(g, 9, ask(5, window), Cut(6, 0, 2, false));
         plans(g, 9, ask(7, window), Cut(3, 2, 4, false));

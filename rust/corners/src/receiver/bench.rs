@@ -10,7 +10,7 @@ use crate::tally::Group;
 use catkhize::{calls, layout};
 
 /// The octets of a slot.
-pub const SLOT: usize = 255;
+const SLOT: usize = 255;
 
 /// Where services, end and stated length stand in a record.
 const NOTED: std::ops::Range<usize> = 25..33;
@@ -58,6 +58,22 @@ impl Lent {
             difference(&self.store, &wanted.store),
             difference(&self.output, &wanted.output),
         ]
+    }
+
+    /// What a call with this outcome does to the store.
+    pub fn leave_store(&mut self, call: &Call, data: &[u8], outcome: Outcome) {
+        match outcome {
+            Outcome::Holds | Outcome::HandsOver => {
+                let at = SLOT * usize::from(call.sequence);
+                self.store[at..at + data.len()].copy_from_slice(data);
+            }
+            Outcome::Fails(_)
+            | Outcome::Expires
+            | Outcome::Lapses
+            | Outcome::Cancels
+            | Outcome::Releases => self.store[..layout::STORE].fill(0),
+            _ => {}
+        }
     }
 
     /// Makes a call, with so many octets of what is lent.
@@ -177,20 +193,7 @@ impl Bench<'_> {
 
     /// What a call has to do to store and output, and how many octets it hands over.
     fn change(&self, lent: &mut Lent, call: &Call, data: &[u8], outcome: Outcome) -> Option<u64> {
-        match outcome {
-            Outcome::Holds | Outcome::HandsOver => {
-                let at = SLOT * usize::from(call.sequence);
-                lent.store[at..at + data.len()].copy_from_slice(data);
-            }
-            Outcome::Fails(_)
-            | Outcome::Expires
-            | Outcome::Lapses
-            | Outcome::Cancels
-            | Outcome::Releases => {
-                lent.store[..layout::STORE].fill(0);
-            }
-            _ => {}
-        }
+        lent.leave_store(call, data, outcome);
         let Outcome::HandsOver = outcome else {
             return None;
         };

@@ -1,10 +1,12 @@
-//! Trains of plan_even through a receiver: the Begin, then the End, then the others, of which the last one hands the message over.
+//! Trains of plan_even, and frozen ones under Exceptions, through a receiver: the Begin, then the End, then the others, of which the last one hands
+//! the message over.
 
 use super::bench::run;
 use super::rows::*;
 use crate::even::{Even, all};
-use crate::octets::{Segment, filled, pattern, window};
-use crate::plan::wrong_part;
+use crate::exceptions::{self, Cutting};
+use crate::octets::{filled, pattern, window};
+use crate::plan::{Heads, proposed, wrong_part};
 use crate::tally::{Group, Tally};
 use catkhize::AcknowledgmentWindow::{self, Every4, Every8, Every16, Exceptions, Prohibited};
 use catkhize::{calls, layout};
@@ -12,7 +14,7 @@ use catkhize::{calls, layout};
 const AT: u64 = 1_000;
 
 /// The message whose segment s has the data that the bench gives to slot s.
-fn message(heads: &[(Segment, u64)]) -> Vec<u8> {
+fn message(heads: Heads) -> Vec<u8> {
     let slots = (0..=u8::MAX).zip(heads);
     slots
         .flat_map(|(s, (_, octets))| pattern(*octets as usize, s))
@@ -20,11 +22,22 @@ fn message(heads: &[(Segment, u64)]) -> Vec<u8> {
 }
 
 /// plan_even cuts the message into the segments that are then received.
-fn planned(g: &mut Group, even: Even, heads: &[(Segment, u64)]) {
+fn planned(g: &mut Group, even: Even, heads: Heads) {
     let mut plan = filled(layout::PLAN);
     let (budget, window) = (even.budget, even.window as u8);
     let message = message(heads);
     let given = calls::plan_even(&message, budget, TRANSACTION, window, 1, budget, &mut plan);
+    g.case((given, wrong_part(&plan, heads)), (0, None));
+}
+
+/// The frozen check takes the segments that are then received.
+fn frozen(g: &mut Group, cutting: Cutting, heads: Heads) {
+    let mut plan = filled(layout::PLAN);
+    let (count, budget) = (heads.len() as u64, cutting.budget);
+    let (proposed, message) = (proposed(heads), message(heads));
+    let given = calls::try_from_frozen(
+        &proposed, count, &message, &message, budget, 1, budget, &mut plan,
+    );
     g.case((given, wrong_part(&plan, heads)), (0, None));
 }
 
@@ -41,22 +54,22 @@ fn answered(window: AcknowledgmentWindow, s: usize, closes: bool) -> bool {
     closes || (s + 1).is_multiple_of(period)
 }
 
-fn deliver(g: &mut Group, even: Even) {
-    let heads = even.heads(TRANSACTION);
-    planned(g, even, &heads);
+/// The segments of a train that asks for a window, and whose Begin states a length or none.
+fn deliver(g: &mut Group, heads: Heads, asked: AcknowledgmentWindow, stated: Option<u16>) {
     let last = heads.len() - 1;
     let octets = |s: usize| heads[s].1 as usize;
-    let services = window(even.window).filter(|_| even.window != Prohibited);
+    let services = window(asked).filter(|_| asked != Prohibited);
     let mut first = begin(services, octets(0), AT);
-    first.stated = even.states_length.then_some(even.octets as u16);
-    let mut rows = vec![Row::Start(1, even.octets as u64), first.holds()];
+    first.stated = stated;
+    let maximum = heads.iter().map(|(_, octets)| octets).sum();
+    let mut rows = vec![Row::Start(1, maximum), first.holds()];
     let mut marks = [1, 0, 0, 0];
     for s in [last].into_iter().chain(1..last) {
         marks[s / 64] |= 1 << (s % 64);
         let call = if s == last { end } else { later };
         let call = call(s as u8, octets(s), AT);
         let whole = rows.len() == heads.len();
-        let answers = answered(even.window, s, whole || s == last);
+        let answers = answered(asked, s, whole || s == last);
         let entries = if answers { heads.len() as u16 } else { 0 };
         let row = if whole {
             call.hands_over()
@@ -71,7 +84,18 @@ fn deliver(g: &mut Group, even: Even) {
 pub fn corners(tally: &mut Tally) {
     tally.group("receiver: even trains, the End behind the Begin", |g| {
         for even in all() {
-            deliver(g, even);
+            let heads = even.heads(TRANSACTION);
+            planned(g, even, &heads);
+            let stated = even.states_length.then_some(even.octets as u16);
+            deliver(g, &heads, even.window, stated);
+        }
+    });
+    let title = "receiver: frozen trains under Exceptions, the End behind the Begin";
+    tally.group(title, |g| {
+        for cutting in exceptions::ALL {
+            let heads = cutting.heads(TRANSACTION);
+            frozen(g, cutting, &heads);
+            deliver(g, &heads, Exceptions, cutting.stated());
         }
     });
 }

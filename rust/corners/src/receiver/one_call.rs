@@ -1,7 +1,7 @@
 //! Trains in one call. A train stops behind a segment whose reception carries a response or a message, or closes the receiver, with 0 and how
 //! many segments were received; at a refusal it stops with that. Each call is made on what the call before it left.
 
-use super::bench::{Lent, SLOT, answer, reported};
+use super::bench::{Lent, answer, reported};
 use super::record::Record;
 use super::rows::*;
 use crate::octets::{FILL, at_front, hex, refusal};
@@ -117,15 +117,8 @@ impl<'a> Bench<'a> {
                 panic!("a row is a call");
             };
             self.record.leave(&call, outcome);
-            match outcome {
-                Outcome::Holds | Outcome::HandsOver => {
-                    let data = &hex(segment)[3..][..call.octets];
-                    let at = SLOT * usize::from(call.sequence);
-                    wanted.store[at..at + data.len()].copy_from_slice(data);
-                }
-                Outcome::Fails(_) | Outcome::Expires => wanted.store[..layout::STORE].fill(0),
-                _ => {}
-            }
+            let data = &hex(segment)[3..][..call.octets];
+            wanted.leave_store(&call, data, outcome);
             carried.0 = map.map(|map| reported(outcome, self.record.state, map));
             if let Outcome::HandsOver = outcome {
                 wanted.output[..message.len()].copy_from_slice(&message);

@@ -7,7 +7,7 @@ use catkhize::calls::Origin;
 use catkhize::{OptionalServices, layout};
 
 /// How long after a segment its deadline is.
-const INTERVAL: u64 = 300_000;
+pub const INTERVAL: u64 = 300_000;
 
 /// The statuses of failures that have to do with lengths.
 const MESSAGE_LENGTH_ERROR: u8 = 8;

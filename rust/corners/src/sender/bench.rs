@@ -8,7 +8,9 @@ pub use crate::tally::{Group, Tally};
 pub use catkhize::AcknowledgmentWindow::{self, *};
 pub use catkhize::Status::{self, *};
 
-use super::plan::{frozen_plan, plan_at};
+use super::plan::{frozen_plan, plan_at, plan_under};
+use crate::octets::head;
+use crate::plan::Heads;
 use catkhize::calls::Origin;
 
 /// 14 octets at a budget of 9 make three segments: data lengths 4, 6, 4 under Prohibited, else 2, 6, 6.
@@ -84,7 +86,7 @@ pub fn frozen_offered() -> Sender {
 
 /// Prepared, segment 0 offered under ticket 0.
 pub fn first_offered(window: AcknowledgmentWindow) -> Sender {
-    made_of(&MESSAGE, BUDGET, window, MADE)
+    try_new(&plan_under(window), &MESSAGE, MADE).sender
 }
 
 /// AwaitingAccept for segment 0, deadline D1.
@@ -115,4 +117,34 @@ pub fn third_awaited(window: AcknowledgmentWindow) -> Sender {
 /// AwaitingResponse, deadline D3; under Prohibited complete.
 pub fn all_accepted(window: AcknowledgmentWindow) -> Sender {
     third_offered(window).taken(2, Q3)
+}
+
+/// A sender that was made of these segments: every one is offered as it was written out, submitted and accepted. Then, where there are responses,
+/// none comes until the deadline, or one says that the peer has them all.
+pub fn drive(g: &mut Group, made: Sent, heads: Heads, window: AcknowledgmentWindow) {
+    let mut sent = made;
+    let mut offset = 0_u64;
+    for (index, (segment, data)) in heads.iter().enumerate() {
+        let ticket = index as u64;
+        let deadline = (index > 0).then_some(D1);
+        case(g, sent, prepared(ticket, index as u8, deadline, ticket));
+        let part = [&head(*segment, *data)[..], &offset.to_be_bytes()].concat();
+        g.case(sent.sender.offered().to_vec(), part);
+        offset += data;
+        sent = sent.sender.handed(ticket, Q1).accepted(OWN, ticket, Q1);
+    }
+    let count = heads.len();
+    let submissions = count as u64;
+    if window == Prohibited {
+        return case(g, sent, ended(LOWER_LAYER_ACCEPTED, submissions));
+    }
+    case(g, sent, awaiting_response(Some(D1), submissions));
+    let due = match window {
+        Exceptions => ended(EXCEPTION_INTERVAL_ELAPSED, submissions),
+        _ => prepared(submissions, 0, None, submissions),
+    };
+    case(g, sent.sender.advance(D1), due);
+    let received = Response::new(Received, marks(0..count), count as u16);
+    let heard = sent.sender.hears(received, Q1);
+    case(g, heard, ended(PEER_RECEIVED, submissions));
 }

@@ -4,7 +4,7 @@ use super::bench::*;
 use super::making::made;
 use super::plan::{Plan, even_at, frozen, plan_at, planned};
 use crate::even::{EIGHT, ELEVEN, EMPTY_BEGIN, Even, NINE, SHORT_END, SPLIT, TEN, all};
-use crate::octets::{head, pattern};
+use crate::octets::pattern;
 
 const SEED: u8 = 31;
 
@@ -15,31 +15,6 @@ fn message(even: Even) -> Vec<u8> {
 /// The plan of plan_even.
 fn plan(even: Even) -> Plan {
     even_at(&message(even), even.budget, even.window)
-}
-
-/// Every segment is offered as it was written out, submitted and accepted; then the peer has them all, where it says so.
-fn drive(g: &mut Group, even: Even) {
-    let heads = even.heads(TRANSACTION);
-    let count = heads.len();
-    let mut sent = try_new(&plan(even), &message(even), MADE);
-    let mut offset = 0_u64;
-    for (index, (segment, data)) in heads.into_iter().enumerate() {
-        let ticket = index as u64;
-        let deadline = (index > 0).then_some(D1);
-        case(g, sent, prepared(ticket, index as u8, deadline, ticket));
-        let part = [&head(segment, data)[..], &offset.to_be_bytes()].concat();
-        g.case(sent.sender.offered().to_vec(), part);
-        offset += data;
-        sent = sent.sender.handed(ticket, Q1).accepted(OWN, ticket, Q1);
-    }
-    let submissions = count as u64;
-    if even.window == Prohibited {
-        return case(g, sent, ended(LOWER_LAYER_ACCEPTED, submissions));
-    }
-    case(g, sent, awaiting_response(Some(D1), submissions));
-    let received = Response::new(Received, marks(0..count), count as u16);
-    let heard = sent.sender.hears(received, Q1);
-    case(g, heard, ended(PEER_RECEIVED, submissions));
 }
 
 /// plan_message's record is the even one once its later capacity is the share.
@@ -82,7 +57,8 @@ fn changed(g: &mut Group) {
     case(g, new(EIGHT, unstated), refuses(40));
 }
 
-/// With another transaction, or another window that has services, it is the even plan of another transaction or window.
+/// With another transaction, or another window that has services, it is the even plan of another transaction or window; no planner gives one
+/// under Exceptions.
 fn others(g: &mut Group) {
     let rows = [
         (EIGHT, planned::TRANSACTION, 0, made()),
@@ -91,7 +67,10 @@ fn others(g: &mut Group) {
         (EIGHT, planned::WINDOW, Every4 as u8, refuses(40)),
         (EIGHT, planned::WINDOW, Exceptions as u8, refuses(40)),
         (NINE, planned::WINDOW, Every4 as u8, made()),
-        (NINE, planned::WINDOW, Exceptions as u8, made()),
+        (NINE, planned::WINDOW, Every8 as u8, made()),
+        (NINE, planned::WINDOW, Every16 as u8, made()),
+        (NINE, planned::WINDOW, Last as u8, made()),
+        (NINE, planned::WINDOW, Exceptions as u8, refuses(40)),
         (NINE, planned::WINDOW, Prohibited as u8, refuses(40)),
     ];
     for (even, at, value, want) in rows {
@@ -134,7 +113,8 @@ fn capacities(g: &mut Group) {
 pub fn corners(tally: &mut Tally) {
     tally.group("sender: even plans, to their end", |g| {
         for even in all() {
-            drive(g, even);
+            let made = try_new(&plan(even), &message(even), MADE);
+            drive(g, made, &even.heads(TRANSACTION), even.window);
         }
     });
     tally.group("sender: shares in plan_message's records", shares);

@@ -1,9 +1,10 @@
 //! The sender's corners of document 01, the boundary of each of its refusals, and records made by hand.
 
-mod bench;
+pub mod bench;
 mod closing;
 mod deadline;
 mod even;
+mod exceptions;
 mod impossible;
 mod lower_layer;
 mod making;
@@ -11,7 +12,7 @@ mod maps;
 mod offers;
 mod order;
 mod outcome;
-mod plan;
+pub mod plan;
 mod plans;
 mod record;
 mod response;
@@ -25,6 +26,7 @@ pub fn corners(tally: &mut Tally) {
     making::corners(tally);
     plans::corners(tally);
     even::corners(tally);
+    exceptions::corners(tally);
     submitting::corners(tally);
     lower_layer::corners(tally);
     deadline::corners(tally);

@@ -1,10 +1,11 @@
 //! Plans in octets (PLAN), as the planners and the frozen check give them and with fields changed.
 
-use super::bench::{MESSAGE, TRANSACTION, VERSION};
+use super::bench::{BUDGET, MESSAGE, TRANSACTION, VERSION};
 use super::record::Octets;
-use crate::octets::{Segment, begin, end, head, later, window};
-use crate::plan::Planner;
-use catkhize::AcknowledgmentWindow::{self, Every4};
+use crate::exceptions::THREE;
+use crate::octets::{Segment, head, train};
+use crate::plan::{Heads, Planner, heads_octets};
+use catkhize::AcknowledgmentWindow::{self, Every4, Exceptions};
 use catkhize::{calls, layout};
 
 /// Offsets of what a planner gives.
@@ -57,30 +58,33 @@ pub fn even_at(message: &[u8], budget: u64, window: AcknowledgmentWindow) -> Pla
     given(calls::plan_even, message, budget, window)
 }
 
+/// What the frozen check gives for these segments of a message.
+pub fn frozen_of(heads: Heads, message: &[u8], budget: u64) -> Plan {
+    let count = heads.len() as u64;
+    let mut heads = heads_octets(heads);
+    heads.resize(layout::HEADS, 0);
+    let mut plan = Plan::UNWRITTEN;
+    let record = &mut plan.0;
+    calls::try_from_frozen(
+        &heads, count, message, message, budget, VERSION, budget, record,
+    );
+    plan
+}
+
 /// A frozen plan of the 14 octets: data lengths 4, 6 and 4, no length stated, window Every4. The budget has room for a length or a CRC in
 /// each segment.
 pub fn frozen_plan() -> Plan {
-    const BUDGET: u64 = 16;
-    const COUNT: u64 = 3;
-    let mut heads = [
-        head(begin(TRANSACTION, None, window(Every4)), 4),
-        head(later(TRANSACTION, 1, None), 6),
-        head(end(TRANSACTION, 2, None, None), 4),
-    ]
-    .concat();
-    heads.resize(layout::HEADS, 0);
-    let mut plan = Plan::UNWRITTEN;
-    calls::try_from_frozen(
-        &heads,
-        COUNT,
-        &MESSAGE,
-        &MESSAGE,
-        BUDGET,
-        VERSION,
-        BUDGET,
-        &mut plan.0,
-    );
-    plan
+    let heads = train(TRANSACTION, None, Every4, &[4, 6, 4]);
+    frozen_of(&heads, &MESSAGE, 16)
+}
+
+/// The plan of the 14 octets under a window. No planner gives one under Exceptions: there it is the frozen plan of the segments that
+/// plan_message gives under the other windows with services.
+pub fn plan_under(window: AcknowledgmentWindow) -> Plan {
+    match window {
+        Exceptions => frozen_of(&THREE.heads(TRANSACTION), &MESSAGE, BUDGET),
+        _ => plan_at(&MESSAGE, BUDGET, window),
+    }
 }
 
 impl Plan {

@@ -38,13 +38,16 @@ fn counts(g: &mut Group) {
     }
 }
 
-/// With another transaction, or another window that has services, it is another plan of the message.
+/// With another transaction, or another window that has services, it is another plan of the message; no planner gives one under Exceptions.
 fn others(g: &mut Group) {
     let rows = [
         (planned::TRANSACTION, 0, made()),
         (planned::TRANSACTION, 7, made()),
         (planned::TRANSACTION, 8, refuses(40)),
-        (planned::WINDOW, Exceptions as u8, made()),
+        (planned::WINDOW, Every8 as u8, made()),
+        (planned::WINDOW, Every16 as u8, made()),
+        (planned::WINDOW, Last as u8, made()),
+        (planned::WINDOW, Exceptions as u8, refuses(40)),
         (planned::WINDOW, Prohibited as u8, refuses(40)),
     ];
     for (at, value, want) in rows {

@@ -5,6 +5,7 @@ use super::outcome::{Offer, Shown, deadline_fields};
 use super::plan::Plan;
 use super::response::Response;
 use crate::octets::FILL;
+use catkhize::AcknowledgmentWindow;
 use catkhize::calls::{self, Origin};
 use catkhize::layout::{self, sender::*};
 
@@ -160,9 +161,19 @@ impl Sender {
         unparsed: u64,
         monotonic_ms: u64,
     ) -> Sent {
-        let response = response.octets();
+        self.receive_octets(from, &response.octets(), unparsed, monotonic_ms)
+    }
+
+    /// The same of RESPONSE.
+    pub fn receive_octets(
+        &self,
+        from: Origin,
+        response: &[u8],
+        unparsed: u64,
+        monotonic_ms: u64,
+    ) -> Sent {
         self.call(|record, answer| {
-            calls::sender_receive_response(record, from, &response, unparsed, monotonic_ms, answer)
+            calls::sender_receive_response(record, from, response, unparsed, monotonic_ms, answer)
         })
     }
 }
@@ -199,6 +210,11 @@ impl Sender {
         let mut answer = [FILL; layout::PART];
         calls::plan_segment(&plan, index, &mut answer);
         answer
+    }
+
+    /// The octets before the plan, and those of the plan.
+    pub fn halves(&self) -> (&[u8], &[u8]) {
+        self.0.split_at(PLAN)
     }
 
     pub fn shown(&self) -> Shown {
@@ -264,9 +280,20 @@ impl Sender {
         self.with(TERMS_VERSION, &[version])
     }
 
+    /// Where a plan's octet stands in the record.
+    fn in_plan(at: usize) -> usize {
+        PLAN - 1 + at
+    }
+
     /// Another number of segments in the plan, planned or frozen.
     pub fn with_count(self, count: u64) -> Self {
-        let form = usize::from(self.0[PLAN - 1 + layout::plan::FORM] != 0);
-        self.with64(PLAN - 1 + layout::plan::COUNT[form], count)
+        let form = usize::from(self.0[Self::in_plan(layout::plan::FORM)] != 0);
+        self.with64(Self::in_plan(layout::plan::COUNT[form]), count)
+    }
+
+    /// Another window in a planned plan.
+    pub fn with_window(self, window: AcknowledgmentWindow) -> Self {
+        let [planned, _] = layout::plan::WINDOW;
+        self.with(Self::in_plan(planned), &[window as u8])
     }
 }
