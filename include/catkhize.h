@@ -23,7 +23,7 @@
  * what the machine became. A train keeps what its segments before the refused one did.
  *
  * 'Document 01' is docs/01-scope.md with what docs/02-change-requests.md adds to it: 25 is of request
- * 2026-09. n/m is its refusal n with field m.
+ * 2026-09, 26 of 2026-06. n/m is its refusal n with field m.
  */
 #ifndef CATKHIZE_H
 #define CATKHIZE_H
@@ -64,13 +64,14 @@ extern "C" {
 #define CATKHIZE_REFUSED_FIELD_SUPPORT_STATUS CATKHIZE_REFUSAL(6, 7)
 #define CATKHIZE_REFUSED_RESERVED CATKHIZE_REFUSAL(7, 0)
 #define CATKHIZE_REFUSED_DUPLICATE_PARAMETER CATKHIZE_REFUSAL(8, 0)
-/* The planners' and the frozen check's. */
+/* The planners', the frozen check's and the converter's. */
 #define CATKHIZE_REFUSED_PAYLOAD_BUDGET CATKHIZE_REFUSAL(20, 0)
 #define CATKHIZE_REFUSED_HEADER_CAPACITY CATKHIZE_REFUSAL(21, 0)
 #define CATKHIZE_REFUSED_SEGMENT_COUNT CATKHIZE_REFUSAL(22, 0)
 #define CATKHIZE_REFUSED_FROZEN_PLAN CATKHIZE_REFUSAL(23, 0)
 #define CATKHIZE_REFUSED_JOINED_LENGTH CATKHIZE_REFUSAL(24, 0)
 #define CATKHIZE_REFUSED_EXCEPTIONS_WINDOW CATKHIZE_REFUSAL(25, 0)
+#define CATKHIZE_REFUSED_OTHER_PATTERN CATKHIZE_REFUSAL(26, 0)
 /* The machines'. */
 #define CATKHIZE_REFUSED_IDENTITY CATKHIZE_REFUSAL(30, 0)
 #define CATKHIZE_REFUSED_SERVICE CATKHIZE_REFUSAL(31, 0)
@@ -96,10 +97,11 @@ extern "C" {
 #define CATKHIZE_REFUSED_OUTPUT_TOO_SHORT CATKHIZE_REFUSAL(61, 0)
 #define CATKHIZE_REFUSED_IMPOSSIBLE_STATE CATKHIZE_REFUSAL(62, 0)
 #define CATKHIZE_REFUSED_TICKETS CATKHIZE_REFUSAL(63, 0)
-/* Of these calls alone, in this order and before any of document 01's; nothing is changed. */
+/* Of these calls alone, in this order and before any of document 01's; nothing is changed. A window above 5, a
+ * protocol or failure above 2 and a dialect above 1 name no case. */
 #define CATKHIZE_REFUSED_BUFFER_TOO_SHORT CATKHIZE_REFUSAL(256, 0) /* a buffer with a layout is shorter than it */
 #define CATKHIZE_REFUSED_BUFFER_SPELLS_NONE CATKHIZE_REFUSAL(257, 0) /* such a buffer that is read spells nothing */
-#define CATKHIZE_REFUSED_NUMBER_NAMES_NONE CATKHIZE_REFUSAL(258, 0) /* window above 5, protocol or failure above 2 */
+#define CATKHIZE_REFUSED_NUMBER_NAMES_NONE CATKHIZE_REFUSAL(258, 0) /* a number that is given names no case */
 
 /* ---- Sizes ---- */
 
@@ -276,7 +278,8 @@ extern "C" {
  * frozen part of a plan that a planner makes is 0, and catkhize_sender_new refuses another with 40. It also
  * refuses with 40 a planned PLAN under Exceptions, which a library before 2026-09 made. The train of one is
  * accepted by catkhize_try_from_frozen: the HEADs that catkhize_plan_segment gives, the message as joined, and
- * the PLAN's count and budget. A SENDER that was made of one goes on. Frozen: heads; the planned part is 0. */
+ * the PLAN's count and budget. A SENDER that was made of one goes on. Frozen: by catkhize_try_from_frozen and
+ * catkhize_convert, heads; the planned part is 0. */
 #define CATKHIZE_PLAN_AT_FORM 1u
 #define CATKHIZE_PLAN_AT_MESSAGE_OCTETS 2u /* planned; 64 bits, as all below but where said */
 #define CATKHIZE_PLAN_AT_BUDGET 10u
@@ -294,6 +297,10 @@ extern "C" {
 
 #define CATKHIZE_PLAN_PLANNED 0u
 #define CATKHIZE_PLAN_FROZEN 1u
+
+/* Dialects of a frozen plan: the Begin alone states the message's length, or every segment does. */
+#define CATKHIZE_DIALECT_BEGIN_ONLY 0u
+#define CATKHIZE_DIALECT_EVERY 1u
 
 /* SENDER. */
 #define CATKHIZE_SENDER_AT_PEER_KIND 1u
@@ -473,6 +480,40 @@ uint32_t catkhize_try_from_frozen(
     uint64_t budget,
     uint8_t version,
     uint64_t ceiling,
+    uint8_t *plan, size_t plan_octets); /* PLAN */
+
+/* Converts a train between the two dialects of a frozen plan. One modem family wants the message's length on
+ * every segment, the rest have it on the Begin only. The train is given as catkhize_try_from_frozen takes it;
+ * dialect (CATKHIZE_DIALECT_..) is the one being read, in which it is now. The other is written: plan becomes
+ * the frozen PLAN of the same message, budget and window, in which the later segments state the length, or
+ * state it no more. All else of each segment, and its data, are as they were. Converting that back, with the
+ * same budget, gives the frozen PLAN of the first train, the same in every octet.
+ *
+ * To convert a PLAN, give the HEADs of all its segments: those that catkhize_plan_segment gives, the others of
+ * the 256 being 0, or of a frozen PLAN the octets from CATKHIZE_PLAN_AT_FROZEN_HEADS on. joined is then the
+ * message too, and count the PLAN's. plan is another buffer than the PLAN that is read.
+ *
+ * A later segment that states the length is encoded in 2 octets more. The budget has to have room for them:
+ * where a converted segment passes it, the call is refused with 20. catkhize_plan_message fills its Continues,
+ * to the budget or to 255 octets of data. So plan with a budget 2 octets below what the layer below takes, and
+ * convert with a budget of these 2 octets more, which is enough for every train planned so whose Begin states
+ * the length.
+ *
+ * The refusals, in this order: 256; 257; 258 for a dialect above 1; what catkhize_try_from_frozen refuses in
+ * the train as it came, in its own order; 26 for a train that is not in the dialect being read; 20 as above,
+ * which is never given where EVERY is read. A train that is in the wanted dialect already gets 26, and so does
+ * one that is in neither: its Begin states no length, or some of its later segments state it and others do
+ * not. A message over 4,095 octets has no train in either dialect. Where the budget has no room for the length
+ * and an octet of data the planners' Begins state none. After a refusal plan is as it was. */
+uint32_t catkhize_convert(
+    const uint8_t *heads, size_t heads_octets, /* 256 HEADs */
+    uint64_t count,
+    const uint8_t *joined, size_t joined_octets,
+    const uint8_t *message, size_t message_octets,
+    uint64_t budget,
+    uint8_t version,
+    uint64_t ceiling,
+    uint8_t dialect,
     uint8_t *plan, size_t plan_octets); /* PLAN */
 
 /* ---- Receiver ----

@@ -87,6 +87,7 @@ static void test_numbers(void) {
     CHECK(CATKHIZE_REFUSED_FIELD_BEGIN_SEQUENCE_NUMBER == 1539u);
     CHECK(CATKHIZE_REFUSED_CLOSED == 9728u);
     CHECK(CATKHIZE_REFUSED_EXCEPTIONS_WINDOW == 6400u);
+    CHECK(CATKHIZE_REFUSED_OTHER_PATTERN == 6656u);
     CHECK(CATKHIZE_REFUSAL_N(1539u) == 6u && CATKHIZE_REFUSAL_M(1539u) == 3u);
     CHECK(CATKHIZE_IS_REFUSAL(CATKHIZE_REFUSED_VERSION) && !CATKHIZE_IS_REFUSAL(CATKHIZE_NOTHING));
     CHECK(CATKHIZE_REFUSED_BUFFER_TOO_SHORT == 65536u);
@@ -287,6 +288,123 @@ static void refuses_exceptions(planner *plans) {
 static void test_exceptions(void) {
     refuses_exceptions(catkhize_plan_message);
     refuses_exceptions(catkhize_plan_even);
+}
+
+static uint8_t begin_only[CATKHIZE_PLAN_OCTETS];
+static uint8_t every[CATKHIZE_PLAN_OCTETS];
+static uint8_t converted[CATKHIZE_PLAN_OCTETS];
+
+/* Head i states the length of the message, or states none. */
+static void state_length(uint8_t i, uint8_t stated) {
+    uint8_t *head = heads + CATKHIZE_HEAD_OCTETS * i;
+    head[CATKHIZE_SEGMENT_AT_LENGTH_STATED] = stated;
+    catkhize_put16(head + CATKHIZE_SEGMENT_AT_LENGTH, stated ? 7 : 0);
+}
+
+/* The message in segments of 1, 3 and 3 octets under Last: frozen plans in both dialects, and the heads of the second. */
+static void two_dialects(void) {
+    CHECK(catkhize_plan_message(message, 7, 6, 2, CATKHIZE_WINDOW_PROHIBITED, 1, 6, plan, sizeof plan) == CATKHIZE_DONE);
+    take_heads(3);
+    heads[CATKHIZE_SEGMENT_AT_SERVICES_PRESENT] = 1;
+    heads[CATKHIZE_SEGMENT_AT_WINDOW] = CATKHIZE_WINDOW_LAST;
+    CHECK(catkhize_try_from_frozen(heads, sizeof heads, 3, message, 7, message, 7, 8, 1, 8, begin_only, sizeof begin_only) == CATKHIZE_DONE);
+    state_length(1, 1);
+    state_length(2, 1);
+    CHECK(catkhize_try_from_frozen(heads, sizeof heads, 3, message, 7, message, 7, 8, 1, 8, every, sizeof every) == CATKHIZE_DONE);
+}
+
+/* Converts 3 segments of the message. */
+static uint32_t convert(const uint8_t *of, uint64_t budget, uint8_t dialect, uint8_t *to) {
+    fill(to, CATKHIZE_PLAN_OCTETS);
+    return catkhize_convert(of, CATKHIZE_HEADS_OCTETS, 3, message, 7, message, 7, budget, 1, 8, dialect, to, CATKHIZE_PLAN_OCTETS);
+}
+
+/* Both ways and back, by whole plans. */
+static void test_convert(void) {
+    two_dialects();
+    CHECK(memcmp(begin_only, every, sizeof every) != 0);
+    CHECK(convert(begin_only + CATKHIZE_PLAN_AT_FROZEN_HEADS, 8, CATKHIZE_DIALECT_BEGIN_ONLY, converted) == CATKHIZE_DONE);
+    CHECK(memcmp(converted, every, sizeof every) == 0);
+    CHECK(convert(converted + CATKHIZE_PLAN_AT_FROZEN_HEADS, 8, CATKHIZE_DIALECT_EVERY, plan) == CATKHIZE_DONE);
+    CHECK(memcmp(plan, begin_only, sizeof begin_only) == 0);
+    CHECK(convert(every + CATKHIZE_PLAN_AT_FROZEN_HEADS, 8, CATKHIZE_DIALECT_EVERY, converted) == CATKHIZE_DONE);
+    CHECK(memcmp(converted, begin_only, sizeof begin_only) == 0);
+    CHECK(convert(converted + CATKHIZE_PLAN_AT_FROZEN_HEADS, 8, CATKHIZE_DIALECT_BEGIN_ONLY, plan) == CATKHIZE_DONE);
+    CHECK(memcmp(plan, every, sizeof every) == 0);
+    CHECK(plan[0] == CATKHIZE_LAYOUT_VERSION && plan[CATKHIZE_PLAN_AT_FORM] == CATKHIZE_PLAN_FROZEN);
+    CHECK(catkhize_plan_segment(plan, sizeof plan, 2, answer, sizeof answer) == CATKHIZE_DONE);
+    CHECK(answer[CATKHIZE_SEGMENT_AT_LENGTH_STATED] == 1 && catkhize_get16(answer + CATKHIZE_SEGMENT_AT_LENGTH) == 7);
+    CHECK(catkhize_get64(answer + CATKHIZE_HEAD_AT_DATA_LENGTH) == 3 && catkhize_get64(answer + CATKHIZE_PART_AT_OFFSET) == 4);
+
+    /* A head past the count comes out empty. */
+    memcpy(heads + 3u * CATKHIZE_HEAD_OCTETS, heads + CATKHIZE_HEAD_OCTETS, CATKHIZE_HEAD_OCTETS);
+    CHECK(convert(heads, 8, CATKHIZE_DIALECT_EVERY, converted) == CATKHIZE_DONE);
+    CHECK(memcmp(converted, begin_only, sizeof begin_only) == 0);
+
+    /* A planner's train, whose budget is 6. */
+    CHECK(catkhize_plan_message(message, 7, 6, 2, CATKHIZE_WINDOW_PROHIBITED, 1, 6, plan, sizeof plan) == CATKHIZE_DONE);
+    take_heads(3);
+    CHECK(convert(heads, 6, CATKHIZE_DIALECT_BEGIN_ONLY, converted) == CATKHIZE_REFUSED_PAYLOAD_BUDGET && untouched(converted, sizeof converted));
+    CHECK(convert(heads, 7, CATKHIZE_DIALECT_BEGIN_ONLY, converted) == CATKHIZE_REFUSED_PAYLOAD_BUDGET && untouched(converted, sizeof converted));
+    CHECK(convert(heads, 8, CATKHIZE_DIALECT_BEGIN_ONLY, converted) == CATKHIZE_DONE);
+    CHECK(catkhize_get64(converted + CATKHIZE_PLAN_AT_FROZEN_BUDGET) == 8);
+}
+
+/* Every pattern of lengths that 3 segments state: each dialect has one, and all others are refused with 26. */
+static void test_patterns(void) {
+    uint8_t dialect, pattern, i;
+    two_dialects();
+    for (dialect = CATKHIZE_DIALECT_BEGIN_ONLY; dialect <= CATKHIZE_DIALECT_EVERY; dialect++) {
+        for (pattern = 0; pattern < 8; pattern++) {
+            for (i = 0; i < 3; i++) {
+                state_length(i, pattern >> i & 1);
+            }
+            if (pattern == (dialect == CATKHIZE_DIALECT_EVERY ? 7 : 1)) {
+                CHECK(convert(heads, 8, dialect, converted) == CATKHIZE_DONE);
+                CHECK(memcmp(converted, dialect == CATKHIZE_DIALECT_EVERY ? begin_only : every, sizeof converted) == 0);
+            } else {
+                CHECK(convert(heads, 8, dialect, converted) == CATKHIZE_REFUSED_OTHER_PATTERN);
+                CHECK(untouched(converted, sizeof converted));
+            }
+        }
+    }
+}
+
+/* Converting the heads is refused so under a ceiling of 8, and the plan is as it was. */
+static int refuses_to_convert(uint32_t refusal, size_t heads_octets, uint64_t count, size_t joined_octets, const uint8_t *of, uint64_t budget,
+    uint8_t version, uint8_t dialect, size_t plan_octets) {
+    fill(converted, sizeof converted);
+    return catkhize_convert(heads, heads_octets, count, message, joined_octets, of, 7, budget, version, 8, dialect, converted, plan_octets) == refusal
+        && untouched(converted, sizeof converted);
+}
+
+/* What a conversion is refused with, each before the next: the exports' own, the frozen check's, 26, 20. */
+static void test_convert_refused(void) {
+    static const uint8_t other[7] = {0x30, 0x31, 0x32, 0x33, 0x34, 0x35, 0x37};
+    const size_t all = sizeof heads, whole = sizeof converted;
+    uint8_t dialect;
+    CHECK(catkhize_plan_message(message, 7, 6, 2, CATKHIZE_WINDOW_PROHIBITED, 1, 6, plan, sizeof plan) == CATKHIZE_DONE);
+    take_heads(3);
+    state_length(0, 0);
+    heads[CATKHIZE_SEGMENT_AT_KIND] = 3;
+    CHECK(refuses_to_convert(CATKHIZE_REFUSED_BUFFER_TOO_SHORT, all - 1, 1, 6, other, 9, 0, 2, whole));
+    CHECK(refuses_to_convert(CATKHIZE_REFUSED_BUFFER_TOO_SHORT, all, 1, 6, other, 9, 0, 2, whole - 1));
+    CHECK(refuses_to_convert(CATKHIZE_REFUSED_BUFFER_SPELLS_NONE, all, 1, 6, other, 9, 0, 2, whole));
+    heads[CATKHIZE_SEGMENT_AT_KIND] = CATKHIZE_KIND_BEGIN;
+    CHECK(refuses_to_convert(CATKHIZE_REFUSED_NUMBER_NAMES_NONE, all, 1, 6, other, 9, 0, 2, whole));
+    CHECK(refuses_to_convert(CATKHIZE_REFUSED_NUMBER_NAMES_NONE, all, 1, 6, other, 9, 0, 255, whole));
+    for (dialect = CATKHIZE_DIALECT_BEGIN_ONLY; dialect <= CATKHIZE_DIALECT_EVERY; dialect++) {
+        CHECK(refuses_to_convert(CATKHIZE_REFUSED_PAYLOAD_BUDGET, all, 1, 6, other, 9, 0, dialect, whole));
+        CHECK(refuses_to_convert(CATKHIZE_REFUSED_SEGMENT_COUNT, all, 1, 6, other, 6, 0, dialect, whole));
+        CHECK(refuses_to_convert(CATKHIZE_REFUSED_JOINED_LENGTH, all, 3, 6, other, 6, 0, dialect, whole));
+        CHECK(refuses_to_convert(CATKHIZE_REFUSED_VERSION, all, 3, 7, other, 6, 0, dialect, whole));
+        CHECK(refuses_to_convert(CATKHIZE_REFUSED_FROZEN_PLAN, all, 3, 7, other, 6, 1, dialect, whole));
+        CHECK(refuses_to_convert(CATKHIZE_REFUSED_PAYLOAD_BUDGET, all, 3, 7, message, 5, 1, dialect, whole));
+        CHECK(refuses_to_convert(CATKHIZE_REFUSED_OTHER_PATTERN, all, 3, 7, message, 6, 1, dialect, whole));
+    }
+    state_length(0, 1);
+    CHECK(refuses_to_convert(CATKHIZE_REFUSED_OTHER_PATTERN, all, 3, 7, message, 6, 1, CATKHIZE_DIALECT_EVERY, whole));
+    CHECK(refuses_to_convert(CATKHIZE_REFUSED_PAYLOAD_BUDGET, all, 3, 7, message, 6, 1, CATKHIZE_DIALECT_BEGIN_ONLY, whole));
 }
 
 #define PEER 0, 34, 5
@@ -773,6 +891,53 @@ static void test_sender_even(void) {
     CHECK(sender[CATKHIZE_SENDER_AT_STATE + CATKHIZE_STATE_AT_COMPLETION] == CATKHIZE_COMPLETE_LOWER_LAYER_ACCEPTED);
 }
 
+/* A sender of a plan in 3 segments, whose train is encoded so, and a receiver that the train is given to. */
+static void sent_as(const uint8_t *of, const uint8_t *train, size_t train_octets) {
+    uint8_t octets[24], lengths[6], state[CATKHIZE_STATE_OCTETS];
+    const uint8_t *reception = answer + CATKHIZE_TRAIN_AT_RECEPTION;
+    size_t at = 0;
+    uint64_t ticket;
+    open_sender(of);
+    for (ticket = 0; ticket < 3; ticket++) {
+        uint8_t offer[CATKHIZE_SUBMISSION_OCTETS];
+        const uint8_t *head = offer + CATKHIZE_SUBMISSION_AT_HEAD;
+        CHECK(submission() == CATKHIZE_DONE);
+        memcpy(offer, answer, sizeof offer);
+        send_one(ticket);
+        CHECK(catkhize_encode(head, CATKHIZE_SEGMENT_OCTETS, message + catkhize_get64(offer + CATKHIZE_SUBMISSION_AT_OFFSET),
+                  (size_t)catkhize_get64(head + CATKHIZE_HEAD_AT_DATA_LENGTH), 1, octets + at, sizeof octets - at, answer, sizeof answer)
+            == CATKHIZE_DONE);
+        catkhize_put16(lengths + 2 * ticket, (uint16_t)catkhize_get64(answer));
+        at += (size_t)catkhize_get64(answer);
+    }
+    CHECK(at == train_octets && memcmp(octets, train, train_octets) == 0);
+    new_receiver(0);
+    CHECK(take_train(octets, at, lengths, sizeof lengths) == CATKHIZE_DONE);
+    CHECK(catkhize_get64(answer + CATKHIZE_TRAIN_AT_RECEIVED) == 3 && says(reception, CATKHIZE_STATUS_RECEIVED, 3, 0, CATKHIZE_NONE_MISSING));
+    CHECK(reception[CATKHIZE_RECEPTION_AT_HANDED_OVER] == 1 && catkhize_get64(reception + CATKHIZE_RECEPTION_AT_MESSAGE_OCTETS) == 7);
+    CHECK(memcmp(output, message, 7) == 0 && untouched(output + 7, sizeof output - 7));
+    CHECK(store[0] == message[0] && memcmp(store + 255, message + 1, 3) == 0 && memcmp(store + 510, message + 4, 3) == 0);
+    CHECK(untouched(store + 1, 254) && untouched(store + 258, 252) && untouched(store + 513, sizeof store - 513));
+    CHECK(record[CATKHIZE_RECEIVER_AT_STATE] == CATKHIZE_RECEIVER_COMPLETE);
+    CHECK(catkhize_sender_receive_response(sender, sizeof sender, PEER, PROTOCOL, reception + CATKHIZE_RECEPTION_AT_RESPONSE, CATKHIZE_RESPONSE_OCTETS, 0,
+              10, state, sizeof state)
+        == CATKHIZE_DONE);
+    CHECK(state[0] == CATKHIZE_SENDER_COMPLETE && state[CATKHIZE_STATE_AT_COMPLETION] == CATKHIZE_COMPLETE_PEER_RECEIVED);
+}
+
+/* Plans that were converted, sent and received to their end. */
+static void test_sender_converted(void) {
+    static const uint8_t long_train[24] = {0x02, 0x00, 0x01, 0x30, 0x10, 0x07, 0x20, 0x20, 0x0a, 0x01, 0x03, 0x31, 0x32, 0x33, 0x10, 0x07, 0x12, 0x02,
+        0x03, 0x34, 0x35, 0x36, 0x10, 0x07};
+    static const uint8_t short_train[20] = {0x02, 0x00, 0x01, 0x30, 0x10, 0x07, 0x20, 0x20, 0x0a, 0x01, 0x03, 0x31, 0x32, 0x33, 0x12, 0x02, 0x03, 0x34,
+        0x35, 0x36};
+    two_dialects();
+    CHECK(convert(begin_only + CATKHIZE_PLAN_AT_FROZEN_HEADS, 8, CATKHIZE_DIALECT_BEGIN_ONLY, converted) == CATKHIZE_DONE);
+    sent_as(converted, long_train, sizeof long_train);
+    CHECK(convert(every + CATKHIZE_PLAN_AT_FROZEN_HEADS, 8, CATKHIZE_DIALECT_EVERY, converted) == CATKHIZE_DONE);
+    sent_as(converted, short_train, sizeof short_train);
+}
+
 static void run(void) {
     test_numbers();
     test_layouts();
@@ -782,6 +947,9 @@ static void run(void) {
     test_frozen();
     test_even();
     test_exceptions();
+    test_convert();
+    test_patterns();
+    test_convert_refused();
     test_receiver();
     test_receiver_time();
     test_release_refused();
@@ -795,6 +963,7 @@ static void run(void) {
     test_sender_ends();
     test_sender_exceptions();
     test_sender_even();
+    test_sender_converted();
 }
 
 /* The tests run on a stack of their own, which was filled before. */

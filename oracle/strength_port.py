@@ -207,6 +207,136 @@ error('f09 a frozen check that refuses Exceptions', F, '''    if !are_plain(opti
     if !are_plain(optional) {
 ''')
 
+# ---- converter
+I, IC = 'dialect/src/lib.rt', 'plan_c/src/lib.rt'
+TEST_26 = '''            if !is_in(heads, count, read) {
+                return refused(ConvertError::OtherPattern);
+            }
+'''
+TEST_CONVERTED = '''            if passes_budget(restated, count, payload_budget_octets) {
+                return refused(ConvertError::Planning(PlanningError::PayloadBudget));
+            }
+'''
+TEST_BEGIN = '    if !states_length(heads[0]) {\n'
+TEST_258 = '''    if LAST_DIALECT < dialect {
+        return UNNAMED;
+    }
+'''
+error('d01 26 behind 20', I, TEST_26, '', also=[(TEST_CONVERTED, TEST_CONVERTED + TEST_26)])
+error('d02 26 before the frozen check', I, '    let check = try_from_frozen(', '''    if 1 <= count && count <= 256 && !is_in(heads, count, read) {
+        return refused(ConvertError::OtherPattern);
+    }
+    let check = try_from_frozen(''')
+error('d03 no 26', I, TEST_26, '')
+error('d04 a pattern tested on the End alone', I, 'let mut i: usize = 1;', 'let mut i: usize = count - 1;')
+error('d05 a pattern tested from segment 2 on', I, 'let mut i: usize = 1;', 'let mut i: usize = 2;')
+error('d06 a pattern tested up to the End', I, 'while i < count {', 'while i + 1 < count {')
+error('d07 a pattern tested past the count', I, 'while i < count {', 'while i < 256 {')
+error('d08 a pattern tested up to segment 254', I, 'while i < count {', 'while i < count && i < 255 {')
+error('d09 a train that states no length is Begin only', I, TEST_BEGIN, '    if !states_length(heads[0]) && !later_fits(heads[0], dialect) {\n')
+error('d10 a Begin without a length among segments that have it', I, TEST_BEGIN, '    if !states_length(heads[0]) && later_fits(heads[0], dialect) {\n')
+error('d11 a stated length of 0 is none', I, 'MessageLength::Stated(_) => true,', 'MessageLength::Stated(n) => n != 0,')
+error('d12 4,095 octets are too long for a length', I, 'if !is_in(heads, count, read) {', 'if 4095 <= message.len() || !is_in(heads, count, read) {')
+error('d13 a converter that refuses Exceptions', I, TEST_26, TEST_26 + '''            let checked = check.plan;
+            let exceptions = match checked.acknowledgment_window {
+                tsar::AcknowledgmentWindow::Exceptions => true,
+                _ => false,
+            };
+            if exceptions {
+                return refused(ConvertError::Planning(PlanningError::ExceptionsWindow));
+            }
+''')
+error('d14 nothing to do', I, TEST_26, '''            if is_in(heads, count, other_dialect(read)) {
+                return Conversion {
+                    answer: ConvertAnswer::Converted,
+                    plan: check.plan,
+                };
+            }
+''' + TEST_26)
+error('d15 the dialect read is written', I, 'restate_heads(kept, count, other_dialect(read), message.len())', 'restate_heads(kept, count, read, message.len())')
+error('d16 a Begin that loses its length on the way back', I, 'let mut at: usize = 1;', 'let mut at: usize = 0;')
+error('d17 the End is left as it was', I, 'while at < count {', 'while at + 1 < count {')
+error('d18 segment 1 is left as it was', I, 'let mut at: usize = 1;', 'let mut at: usize = 2;')
+error('d19 segment 255 is left as it was', I, 'while at < count {', 'while at < count && at < 255 {')
+error('d20 empty heads past the count state a length', I, 'while at < count {', 'while at < 256 {')
+error('d21 no 20 by a converted segment', I, TEST_CONVERTED, '')
+error('d22 the budget of the train as it came', I, 'if passes_budget(restated, count, payload_budget_octets) {', 'if passes_budget(heads, count, payload_budget_octets) {')
+error('d23 the budget of all but the End', I, 'while i < count {', 'while i + 1 < count {', 1)
+error('d24 the budget of the End alone', I, 'let mut i: usize = 0;', 'let mut i: usize = count - 1;')
+error('d25 the budget of segments up to 254', I, 'while i < count {', 'while i < count && i < 255 {', 1)
+error('d26 20 where a converted segment is the budget', I, 'payload_budget_octets - header < head.segment_data_length', 'payload_budget_octets - header <= head.segment_data_length')
+error('d27 20 by a converted segment before the frozen check', I, '    let check = try_from_frozen(', '''    if 1 <= count && count <= 256 && message.len() <= 4095 && is_in(heads, count, read) {
+        let early = restate_heads(heads, count, other_dialect(read), message.len());
+        if passes_budget(early, count, payload_budget_octets) {
+            return refused(ConvertError::Planning(PlanningError::PayloadBudget));
+        }
+    }
+    let check = try_from_frozen(''')
+error('d28 21 in place of 20', I, 'PlanningError::PayloadBudget', 'PlanningError::HeaderCapacity')
+error('d29 26 in place of 20', I, 'refused(ConvertError::Planning(PlanningError::PayloadBudget))', 'refused(ConvertError::OtherPattern)')
+error('d30 a length of one octet less', I, 'MessageLength::Stated(message_octets as u16)', 'MessageLength::Stated(if message_octets == 0 { 0 } else { message_octets as u16 - 1 })')
+error('d31 each segment states its own length', I, 'length_for(dialect, message_octets)', 'length_for(dialect, head.segment_data_length)')
+error('d32 data that give way to the length', I, 'segment_data_length: head.segment_data_length,', 'segment_data_length: if head.segment_data_length < 2 { 0 } else { head.segment_data_length - 2 },')
+error('d33 transaction 0', I, 'transaction_id: segment.transaction_id,', 'transaction_id: 0,')
+error('d34 heads past the count kept', I, 'let kept = plan.heads;', 'let kept = heads;')
+error('d35 the services of the Begin lost', I, '''        } => SegmentKind::Begin {
+            message_length,
+            services,
+        },''', '''        } => SegmentKind::Begin {
+            message_length,
+            services: tsar::Services::Absent,
+        },''', also=[('    let mut at: usize = 1;', '    heads[0] = restate(heads[0], Dialect::Every, message_octets);\n    let mut at: usize = 1;')])
+error('d36 the window lost', I, '''                    heads: restated,
+''', '''                    heads: restated,
+                    acknowledgment_window: tsar::AcknowledgmentWindow::Prohibited,
+''')
+error('d37 the message taken for the joined data', I, '''        count,
+        joined,
+        message,
+        payload_budget_octets,
+        version,
+        ceiling,
+    );''', '''        count,
+        message,
+        message,
+        payload_budget_octets,
+        version,
+        ceiling,
+    );''')
+error('d38 a ceiling that is not read', I, '''        version,
+        ceiling,
+    );''', '''        version,
+        payload_budget_octets,
+    );''')
+error('d39 a version that is not read', I, '''        version,
+        ceiling,
+    );''', '''        1,
+        ceiling,
+    );''')
+error('d40 the dialects exchanged', IC, '''        0 => Dialect::BeginOnly,
+        1 => Dialect::Every,''', '''        0 => Dialect::Every,
+        1 => Dialect::BeginOnly,''')
+error('d41 258 for dialect 1', IC, 'const LAST_DIALECT: u8 = 1;', 'const LAST_DIALECT: u8 = 0;')
+error('d42 dialect 2 taken', IC, 'const LAST_DIALECT: u8 = 1;', 'const LAST_DIALECT: u8 = 2;')
+error('d43 258 before 257', IC, TEST_258, '', also=[('''    let spelled = get_heads(heads);
+    if !spelled.ok {
+        return MISSPELLED;
+    }
+    let given = spelled.heads;
+    let conversion''', TEST_258 + '''    let spelled = get_heads(heads);
+    if !spelled.ok {
+        return MISSPELLED;
+    }
+    let given = spelled.heads;
+    let conversion''')])
+error('d44 258 before 256', IC, '    if heads.len() < HEADS_OCTETS {\n', TEST_258 + '    if heads.len() < HEADS_OCTETS {\n', 1)
+error('d45 26 spelled 23', IC, '256 * 26', '256 * 23')
+error('d46 a plan written beside a refusal', IC, 'ConvertAnswer::Refused(e) => convert_code(e),', '''ConvertAnswer::Refused(e) => {
+            let frozen = conversion.plan;
+            put_plan(plan, Plan::frozen(frozen));
+            convert_code(e)
+        }''')
+
 # ---- words, peers, responses
 W, L, Q, O = 'words/src/lib.rt', 'link/src/lib.rt', 'response/src/lib.rt', 'octets/src/lib.rt'
 error('w01 marks from 192 on as from 191', W, 'd: front_in(n, 192),', 'd: front_in(n, 191),')
@@ -606,7 +736,7 @@ def apply(crates, file, changes):
 
 
 # By the first letter of an error's name: the areas that the driver runs (tools/differ).
-AREAS = {'c': 'c', 'p': 'p', 'f': 'p', 'r': 'r', 's': 's', 't': 't'}
+AREAS = {'c': 'c', 'p': 'p', 'f': 'p', 'd': 'p', 'r': 'r', 's': 's', 't': 't'}
 
 
 def run(root, library, areas, rounds):

@@ -1,6 +1,6 @@
-// Plans and frozen plans.
+// Plans, frozen plans and their dialects.
 ghost use mathlib.Core.Path.{_≡_};
-ghost use Rattle.plan_c.specs.Calls.{planCall, planMessageCall, planEvenCall, partCall, planSegmentCall, tryFromFrozenCall};
+ghost use Rattle.plan_c.specs.Calls.{planCall, planMessageCall, planEvenCall, partCall, planSegmentCall, tryFromFrozenCall, convertCall};
 
 // Plans the segments of a message. The plan is put into plan.
 #[no_mangle]
@@ -64,6 +64,34 @@ pub extern "C" fn catkhize_try_from_frozen(
         budget,
         version,
         ceiling,
+        plan,
+    )
+}
+
+// Converts a train of count segments, whose heads HEADS spells, out of the dialect being read into the other. The plan is put into plan.
+#[no_mangle]
+pub extern "C" fn catkhize_convert(
+    heads: &[u8],
+    count: u64,
+    joined: &[u8],
+    message: &[u8],
+    budget: u64,
+    version: u8,
+    ceiling: u64,
+    dialect: u8,
+    plan: &mut [u8],
+) -> u32
+    ensures { λ r. ⌜ planCall r (now (plan .exit)) ≡ convertCall (now (heads .entry)) count (now (joined .entry)) (now (message .entry)) budget version ceiling dialect (now (plan .entry)) ⌝ }
+{
+    plan_c::catkhize_convert(
+        heads,
+        count,
+        joined,
+        message,
+        budget,
+        version,
+        ceiling,
+        dialect,
         plan,
     )
 }

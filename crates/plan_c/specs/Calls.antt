@@ -1,11 +1,11 @@
--- What catkhize_plan_message, catkhize_plan_even, catkhize_plan_segment and catkhize_try_from_frozen give and leave in each lent buffer: the
--- exports' own tests, then the definitions of the planners and of the frozen check. A plan comes out as a sender's plan.
+-- What catkhize_plan_message, catkhize_plan_even, catkhize_plan_segment, catkhize_try_from_frozen and catkhize_convert give and leave in each lent
+-- buffer: the exports' own tests, then the definitions of the planners, of the frozen check and of the converter. A plan comes out as a sender's plan.
 use mathlib.Core.Bool.{Bool, not, cond}
-use mathlib.Core.List.{List, [], _∷_}
+use mathlib.Core.List.{List, [], _∷_, _++_}
 use mathlib.Core.Option.{Option, none, some}
 use Prim.Native.Nat.{ℕ}
 use lib.Dec.{ltb}
-use lib.ListN.{length}
+use lib.ListN.{length, getD}
 use lib.Seq.{sets}
 use Rattle.tsar.specs.Rows.{Refusal, refusal}
 use Rattle.segmentation.specs.Plan.{Planning, unsegmented, refused, segmented, planMessage, evenMessage}
@@ -14,6 +14,9 @@ use Rattle.segmentation.specs.declared.SegmentedMessage.{SegmentedMessage}
 use Rattle.segmentation.specs.declared.FrozenMessage.{FrozenMessage}
 use Rattle.segmentation.specs.declared.PlannedSegment.{PlannedSegment}
 use Rattle.segmentation.specs.declared.PlannedSegment.the-variants.{NoSegment, Segment}
+use Rattle.dialect.specs.declared.Dialect.{Dialect}
+use Rattle.dialect.specs.declared.Dialect.the-variants.{BeginOnly, Every}
+use Rattle.dialect.specs.Convert.{convertOf}
 use Rattle.sender.specs.TryNew.{planSegment}
 use Rattle.sender.specs.declared.Plan.{Plan}
 use Rattle.sender.specs.declared.PlanForm.the-variants.{Planned, Frozen}
@@ -125,3 +128,22 @@ unfoldable pub tryFromFrozenCall : List ℕ → ℕ → List ℕ → List ℕ �
 tryFromFrozenCall heads count joined message budget version ceiling plan =
     unlessRefused (refusal (frozenTests heads plan)) (λ n. planCall n plan)
     (checkGives (tryFromFrozen (proposal heads count joined message budget version ceiling)) plan)
+
+-- ---- catkhize_convert
+
+-- the dialects by their numbers
+abbrev pub dialects : List Dialect
+dialects = BeginOnly ∷ Every ∷ []
+
+-- the dialect that a number names; past the last, which the tests refuse, the first
+abbrev pub dialectOf : ℕ → Dialect
+dialectOf n = getD dialects n BeginOnly
+
+-- the tests of catkhize_try_from_frozen, and the dialects are 0 and 1
+abbrev pub convertTests : List ℕ → ℕ → List ℕ → List (Bool × Refusal)
+convertTests heads dialect plan = frozenTests heads plan ++ ((ltb 1 dialect, unnamed) ∷ [])
+
+unfoldable pub convertCall : List ℕ → ℕ → List ℕ → List ℕ → ℕ → ℕ → ℕ → ℕ → List ℕ → PlanCall
+convertCall heads count joined message budget version ceiling dialect plan =
+    unlessRefused (refusal (convertTests heads dialect plan)) (λ n. planCall n plan)
+    (checkGives (convertOf (dialectOf dialect) (proposal heads count joined message budget version ceiling)) plan)

@@ -1,4 +1,4 @@
-// The exported planners and frozen check, on numbers and octet slices. A plan comes out as a sender's plan (PLAN).
+// The exported planners, frozen check and converter, on numbers and octet slices. A plan comes out as a sender's plan (PLAN).
 use codec_c::PART_OCTETS;
 use codec_c::codes::DONE;
 use codec_c::codes::MISSPELLED;
@@ -7,6 +7,11 @@ use codec_c::codes::SHORT;
 use codec_c::codes::UNNAMED;
 use codec_c::codes::error_code;
 use codec_c::put_part;
+use dialect::Conversion;
+use dialect::ConvertAnswer;
+use dialect::ConvertError;
+use dialect::Dialect;
+use dialect::convert;
 use image::cases::window_of;
 use plan_image::PLAN_OCTETS;
 use plan_image::get_heads;
@@ -14,6 +19,7 @@ use plan_image::get_plan;
 use plan_image::put_plan;
 use segmentation::FrozenAnswer;
 use segmentation::FrozenCheck;
+use segmentation::FrozenMessage;
 use segmentation::MessagePlan;
 use segmentation::PlannedSegment;
 use segmentation::PlanningError;
@@ -27,11 +33,16 @@ ghost use lib.ListN.{length};
 ghost use Rattle.segmentation.specs.Numbers.{planningNumber};
 ghost use Rattle.segmentation.specs.Plan.{plannedBy};
 ghost use Rattle.segmentation.specs.Frozen.{checkedBy};
+ghost use Rattle.dialect.specs.Numbers.{convertNumber};
+ghost use Rattle.dialect.specs.Convert.{convertedBy};
 ghost use Rattle.codec_c.specs.Codes.{codeOf};
-ghost use Rattle.plan_c.specs.Calls.{planCall, planningGives, planningCall, planMessageCall, planEvenCall, partCall, segmentGives, planSegmentCall, checkGives, tryFromFrozenCall};
+ghost use Rattle.plan_c.specs.Calls.{planCall, planWritten, frozenPlan, planningGives, planningCall, planMessageCall, planEvenCall, partCall, segmentGives, planSegmentCall, checkGives, tryFromFrozenCall, dialectOf, convertCall};
 
 // The last window's number.
 const LAST_WINDOW: u8 = 5;
+
+// The last dialect's number.
+const LAST_DIALECT: u8 = 1;
 
 // 256 heads.
 const HEADS_OCTETS: usize = 5888;
@@ -157,6 +168,15 @@ pub fn catkhize_plan_segment(plan: &[u8], index: u8, answer: &mut [u8]) -> u32
     put_segment(p.segment(index), answer)
 }
 
+// A frozen plan is put into plan, as a sender has it.
+fn put_frozen(frozen: FrozenMessage, plan: &mut [u8]) -> u32
+    requires { ⌜ 5958 ≤ length (now plan) ⌝ }
+    ensures { λ r. ⌜ planCall r (now (plan .exit)) ≡ planWritten (frozenPlan frozen) (now (plan .entry)) ⌝ }
+{
+    put_plan(plan, Plan::frozen(frozen));
+    DONE
+}
+
 // What the frozen check gave: a plan that it accepted is put into plan.
 fn put_checked(checked: FrozenCheck, plan: &mut [u8]) -> u32
     requires { ⌜ 5958 ≤ length (now plan) ⌝ }
@@ -165,11 +185,7 @@ fn put_checked(checked: FrozenCheck, plan: &mut [u8]) -> u32
     let answer = checked.answer;
     match answer {
         FrozenAnswer::Refused(e) => planning_code(e),
-        FrozenAnswer::Accepted => {
-            let frozen = checked.plan;
-            put_plan(plan, Plan::frozen(frozen));
-            DONE
-        }
+        FrozenAnswer::Accepted => put_frozen(checked.plan, plan),
     }
 }
 
@@ -207,4 +223,78 @@ pub fn catkhize_try_from_frozen(
         ceiling as usize,
     );
     put_checked(checked, plan)
+}
+
+// The dialect that a number names; past the last, the first.
+fn dialect_of(n: u8) -> Dialect
+    ensures { λ r. ⌜ r ≡ dialectOf n ⌝ }
+{
+    match n {
+        0 => Dialect::BeginOnly,
+        1 => Dialect::Every,
+        _ => Dialect::BeginOnly,
+    }
+}
+
+// What a call gives that the converter refuses.
+fn convert_code(e: ConvertError) -> u32
+    ensures { λ r. ⌜ r ≡ codeOf (convertNumber e) ⌝ }
+{
+    match e {
+        ConvertError::Planning(error) => planning_code(error),
+        ConvertError::OtherPattern => 256 * 26,
+    }
+}
+
+// What the converter gave: a plan that it wrote is put into plan.
+fn put_converted(conversion: Conversion, plan: &mut [u8]) -> u32
+    requires { ⌜ 5958 ≤ length (now plan) ⌝ }
+    ensures { λ r. ⌜ planCall r (now (plan .exit)) ≡ checkGives (convertedBy conversion) (now (plan .entry)) ⌝ }
+{
+    let answer = conversion.answer;
+    match answer {
+        ConvertAnswer::Refused(e) => convert_code(e),
+        ConvertAnswer::Converted => put_frozen(conversion.plan, plan),
+    }
+}
+
+// Converts a train of count segments, whose heads HEADS spells, out of the dialect being read into the other. The plan is put into plan.
+pub fn catkhize_convert(
+    heads: &[u8],
+    count: u64,
+    joined: &[u8],
+    message: &[u8],
+    budget: u64,
+    version: u8,
+    ceiling: u64,
+    dialect: u8,
+    plan: &mut [u8],
+) -> u32
+    ensures { λ r. ⌜ planCall r (now (plan .exit)) ≡ convertCall (now (heads .entry)) count (now (joined .entry)) (now (message .entry)) budget version ceiling dialect (now (plan .entry)) ⌝ }
+{
+    if heads.len() < HEADS_OCTETS {
+        return SHORT;
+    }
+    if plan.len() < PLAN_OCTETS {
+        return SHORT;
+    }
+    let spelled = get_heads(heads);
+    if !spelled.ok {
+        return MISSPELLED;
+    }
+    if LAST_DIALECT < dialect {
+        return UNNAMED;
+    }
+    let given = spelled.heads;
+    let conversion = convert(
+        given,
+        count as usize,
+        joined,
+        message,
+        budget as usize,
+        version,
+        ceiling as usize,
+        dialect_of(dialect),
+    );
+    put_converted(conversion, plan)
 }

@@ -34,11 +34,11 @@ fn nth(first: usize, n: u8, count: u8) -> usize {
 fn refusal_name(n: u32) -> usize {
     match n {
         1..=8 => say::REFUSALS + (n - 1) as usize,
-        20..=25 => say::REFUSALS + 8 + (n - 20) as usize,
-        30..=38 => say::REFUSALS + 14 + (n - 30) as usize,
-        40..=49 => say::REFUSALS + 23 + (n - 40) as usize,
-        60..=63 => say::REFUSALS + 33 + (n - 60) as usize,
-        256..=258 => say::REFUSALS + 37 + (n - 256) as usize,
+        20..=26 => say::REFUSALS + 8 + (n - 20) as usize,
+        30..=38 => say::REFUSALS + 15 + (n - 30) as usize,
+        40..=49 => say::REFUSALS + 24 + (n - 40) as usize,
+        60..=63 => say::REFUSALS + 34 + (n - 60) as usize,
+        256..=258 => say::REFUSALS + 38 + (n - 256) as usize,
         _ => say::NOTHING,
     }
 }

@@ -149,7 +149,8 @@ fn is_placed(kind: SegmentKind, index: usize, count: usize) -> bool
     }
 }
 
-fn length_in(kind: SegmentKind) -> MessageLength
+// The length that a segment states.
+pub fn length_in(kind: SegmentKind) -> MessageLength
     ensures { λ r. ⌜ r ≡ lengthIn kind ⌝ }
 {
     match kind {
@@ -334,20 +335,28 @@ fn kept_heads(mut heads: [SegmentHead; 256], count: usize) -> [SegmentHead; 256]
     heads
 }
 
+// The plan of no segments.
+pub fn no_plan() -> FrozenMessage
+    ensures { λ r. ⌜ r ≡ noPlan ⌝ }
+{
+    let heads = [no_head(); 256];
+    FrozenMessage {
+        heads,
+        count: 0,
+        message_octets: 0,
+        payload_budget_octets: 0,
+        acknowledgment_window: AcknowledgmentWindow::Prohibited,
+    }
+}
+
 // A refusal, with a plan of no segments beside it.
 fn refused(error: PlanningError) -> FrozenCheck
     ensures { λ r. ⌜ checkedBy r ≡ record { refused = some (planningNumber error); plan = noPlan } ⌝ }
 {
-    let heads = [no_head(); 256];
+    let plan = no_plan();
     FrozenCheck {
         answer: FrozenAnswer::Refused(error),
-        plan: FrozenMessage {
-            heads,
-            count: 0,
-            message_octets: 0,
-            payload_budget_octets: 0,
-            acknowledgment_window: AcknowledgmentWindow::Prohibited,
-        },
+        plan,
     }
 }
 

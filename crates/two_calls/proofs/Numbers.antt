@@ -1,4 +1,4 @@
--- The refusals of the planners, of the frozen check, of the receiver and of a train: none is 0, and none that of octets that spell no value.
+-- The refusals of the planners, of the frozen check, of the converter, of the receiver and of a train: none is 0, and none that of octets that spell no value.
 -- Assumes nothing.
 use mathlib.Core.Path.{_≡_, refl}
 use mathlib.Core.Bool.{Bool, true, false, not}
@@ -24,6 +24,8 @@ use Rattle.link.specs.declared.HigherLayerProtocol.{HigherLayerProtocol}
 use Rattle.tsar.specs.Kinds.{prohibited}
 use Rattle.segmentation.specs.Plan.{Planning, unsegmented, refused as unplanned, segmented, planRows, planOf, planMessage, spread, evenMessage}
 use Rattle.segmentation.specs.Frozen.{Proposal, dataBefore, segmentRows, segmentsFrom, frozenRows, frozenRefusal, checkedAs, tryFromFrozen}
+use Rattle.dialect.specs.declared.Dialect.{Dialect}
+use Rattle.dialect.specs.Convert.{otherDialect, converted, dialectRows, convertRefusal, convertOf}
 use Rattle.receiver.specs.declared.Receiver.{Receiver}
 use Rattle.receiver.specs.declared.Terms.{Terms as ReceiverTerms}
 use Rattle.receiver.specs.Record.{late, due}
@@ -59,7 +61,7 @@ error-fine (error.Field f) = field-fine f
 error-fine error.Reserved = refl
 error-fine error.DuplicateParameter = refl
 
--- ---- the planners and the frozen check
+-- ---- the planners, the frozen check and the converter
 
 abbrev pub finePlanning : Planning → Bool
 finePlanning unsegmented = true
@@ -86,13 +88,24 @@ segments-fine p zero i = refusal-passes fine ((not (eqb (dataBefore (p .heads) i
 segments-fine p (suc k) i =
     or-else-passes fine (refusal (segmentRows p i)) (segmentsFrom p k (suc i)) (refusal-passes fine (segmentRows p i) refl) (segments-fine p k (suc i))
 
+checking-fine : (p : Proposal) → passes fine (frozenRefusal p) ≡ true
+unfolding frozenRefusal
+checking-fine p = or-else-passes fine (refusal (frozenRows p)) (segmentsFrom p (p .count) 0) (refusal-passes fine (frozenRows p) refl) (segments-fine p (p .count) 0)
+
+checked-fine : (o : Option Refusal) (p : Proposal) → passes fine o ≡ true → passes fine (checkedAs o p .refused) ≡ true
+checked-fine none p e = e
+checked-fine (some x) p e = e
+
 pub frozen-fine : (p : Proposal) → passes fine (tryFromFrozen p .refused) ≡ true
-unfolding tryFromFrozen frozenRefusal
-frozen-fine p = go (frozenRefusal p) (or-else-passes fine (refusal (frozenRows p)) (segmentsFrom p (p .count) 0) (refusal-passes fine (frozenRows p) refl) (segments-fine p (p .count) 0))
-  where
-    go : (o : Option Refusal) → passes fine o ≡ true → passes fine (checkedAs o p .refused) ≡ true
-    go none e = e
-    go (some x) e = e
+unfolding tryFromFrozen
+frozen-fine p = checked-fine (frozenRefusal p) p (checking-fine p)
+
+-- 26 and 20 behind them
+pub convert-fine : (d : Dialect) (p : Proposal) → passes fine (convertOf d p .refused) ≡ true
+unfolding convertOf convertRefusal
+convert-fine d p =
+    checked-fine (convertRefusal d p) (converted (otherDialect d) p)
+    (or-else-passes fine (frozenRefusal p) (refusal (dialectRows d p)) (checking-fine p) (refusal-passes fine (dialectRows d p) refl))
 
 -- ---- the receiver
 

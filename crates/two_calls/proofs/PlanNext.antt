@@ -1,4 +1,4 @@
--- The law of plans: what catkhize_plan_message, catkhize_plan_even or catkhize_try_from_frozen wrote, given to catkhize_plan_segment and
+-- The law of plans: what catkhize_plan_message, catkhize_plan_even, catkhize_try_from_frozen or catkhize_convert wrote, given to catkhize_plan_segment and
 -- catkhize_sender_new. Assumes nothing.
 use mathlib.Core.Path.{_≡_, refl, sym, ap, subst, _∙_}
 use mathlib.Core.Bool.{Bool, true}
@@ -9,19 +9,20 @@ use native.Mathlib.Omega.{arith}
 use lib.ListN.{length}
 use Rattle.tsar.specs.Rows.{Refusal, refusal, refusal-none}
 use Rattle.segmentation.specs.Plan.{Planning, unsegmented, refused, segmented, planMessage, evenMessage}
-use Rattle.segmentation.specs.Frozen.{Proposal, Checked, tryFromFrozen}
+use Rattle.segmentation.specs.Frozen.{Checked, tryFromFrozen}
 use Rattle.segmentation.specs.declared.FrozenMessage.{FrozenMessage}
+use Rattle.dialect.specs.Convert.{convertOf}
 use Rattle.segmentation.specs.declared.PlannedSegment.{PlannedSegment}
 use Rattle.segmentation.specs.declared.PlannedSegment.the-variants.{NoSegment, Segment}
 use Rattle.sender.specs.TryNew.{planSegment}
 use Rattle.image.specs.Cases.{windowOf}
 use Rattle.codec_c.specs.Codes.{unlessRefused}
 use Rattle.plan_image.specs.Plans.{planOf, planOk}
-use Rattle.plan_c.specs.Calls.{PlanCall, spelledBy, planCall, planningGives, messageTests, planningCall, PartCall, partCall, segmentGives, segmentTests, planSegmentCall, frozenGives, checkGives, frozenTests, proposal, tryFromFrozenCall}
+use Rattle.plan_c.specs.Calls.{PlanCall, spelledBy, planCall, planningGives, messageTests, planningCall, PartCall, partCall, segmentGives, segmentTests, planSegmentCall, frozenGives, checkGives, frozenTests, proposal, tryFromFrozenCall, dialectOf, convertTests, convertCall}
 use Rattle.sender_c.specs.Calls as sender
-use Rattle.two_calls.specs.TwoCalls.{NeverMisspelled, PlanMade, planned, evenly, checked, PlanRead, segment, sender-new}
+use Rattle.two_calls.specs.TwoCalls.{NeverMisspelled, PlanMade, planned, evenly, checked, converted, PlanRead, segment, sender-new}
 use Rattle.two_calls.proofs.Passing.{both, twice, not-false-is, isSome, cond-some, refusal-passes, passes, other, notDone, fine, fine-not-done, call-done}
-use Rattle.two_calls.proofs.Numbers.{finePlanning, planning-fine, even-fine, frozen-fine}
+use Rattle.two_calls.proofs.Numbers.{finePlanning, planning-fine, even-fine, frozen-fine, convert-fine}
 use Rattle.two_calls.proofs.SenderNumbers.{answer-other, sender-new-fine}
 use Rattle.two_calls.proofs.Behaving.{Making, Behaves, never-misspelled, unchanged-by, by-contract}
 
@@ -60,17 +61,12 @@ planning-done p f window before plan e =
     e
     (planning-spells p before f)
 
-check-done : (heads : List ℕ) (count : ℕ) (joined message : List ℕ) (budget version ceiling : ℕ) (before plan : List ℕ)
-    → planCall 0 plan ≡ tryFromFrozenCall heads count joined message budget version ceiling before → planOk plan ≡ true
-unfolding tryFromFrozenCall
-check-done heads count joined message budget version ceiling before plan e =
-    let q : Proposal = proposal heads count joined message budget version ceiling in
-    let k : Checked = tryFromFrozen q in
-    spelled-by (frozenTests heads before) before plan (checkGives k before) (tryFromFrozenCall heads count joined message budget version ceiling before)
-    (refusal-passes notDone (frozenTests heads before) refl)
-    refl
-    e
-    (frozen-spells (k .refused) (k .plan) before (frozen-fine q))
+-- of the frozen check and of the converter, by their tests and what they answered
+checked-done : (tests : List (Bool × Refusal)) (k : Checked) → passes notDone (refusal tests) ≡ true → passes fine (k .refused) ≡ true → (before plan : List ℕ)
+    → planCall 0 plan ≡ unlessRefused (refusal tests) (λ n. planCall n before) (checkGives k before) → planOk plan ≡ true
+checked-done tests k p f before plan e =
+    spelled-by tests before plan (checkGives k before) (unlessRefused (refusal tests) (λ n. planCall n before) (checkGives k before)) p refl e
+    (frozen-spells (k .refused) (k .plan) before f)
 
 -- ---- what is left where nothing is written
 
@@ -92,13 +88,6 @@ call-left : (p : Planning) (window : ℕ) (before : List ℕ) (n : ℕ) (plan : 
 unfolding planningCall
 call-left p window before n plan e = left-by (messageTests window before) before n plan (planningGives p before) e (planning-left p before)
 
-check-left : (heads : List ℕ) (count : ℕ) (joined message : List ℕ) (budget version ceiling : ℕ) (before : List ℕ) (n : ℕ) (plan : List ℕ)
-    → planCall n plan ≡ tryFromFrozenCall heads count joined message budget version ceiling before → (n ≡ 0 → ⊥) → plan ≡ before
-unfolding tryFromFrozenCall
-check-left heads count joined message budget version ceiling before n plan e =
-    let k : Checked = tryFromFrozen (proposal heads count joined message budget version ceiling) in
-    left-by (frozenTests heads before) before n plan (checkGives k before) e (frozen-left (k .refused) (k .plan) before)
-
 planning-making : (p : Planning) → finePlanning p ≡ true → (window : ℕ) (before : List ℕ) (n : ℕ) (plan : List ℕ) → planCall n plan ≡ planningCall p window before → Making planOk before n plan
 planning-making p f window before n plan e =
     record {
@@ -106,7 +95,16 @@ planning-making p f window before n plan e =
       unchanged = call-left p window before n plan e;
     }
 
+checked-making : (tests : List (Bool × Refusal)) (k : Checked) → passes notDone (refusal tests) ≡ true → passes fine (k .refused) ≡ true → (before : List ℕ) (n : ℕ) (plan : List ℕ)
+    → planCall n plan ≡ unlessRefused (refusal tests) (λ m. planCall m before) (checkGives k before) → Making planOk before n plan
+checked-making tests k p f before n plan e =
+    record {
+      made-ok = λ z. checked-done tests k p f before plan (ap (λ (m : ℕ). planCall m plan) (sym z) ∙ e);
+      unchanged = left-by tests before n plan (checkGives k before) e (frozen-left (k .refused) (k .plan) before);
+    }
+
 making : (before : List ℕ) (n : ℕ) (plan : List ℕ) → PlanMade before n plan → Making planOk before n plan
+unfolding tryFromFrozenCall convertCall
 making before n plan (planned message budget transaction window version ceiling e) =
     planning-making (planMessage (length message) budget transaction (windowOf window) version ceiling)
     (planning-fine (length message) budget transaction (windowOf window) version ceiling) window before n plan e
@@ -114,10 +112,11 @@ making before n plan (evenly message budget transaction window version ceiling e
     planning-making (evenMessage (length message) budget transaction (windowOf window) version ceiling)
     (even-fine (length message) budget transaction (windowOf window) version ceiling) window before n plan e
 making before n plan (checked heads count joined message budget version ceiling e) =
-    record {
-      made-ok = λ z. check-done heads count joined message budget version ceiling before plan (ap (λ (k : ℕ). planCall k plan) (sym z) ∙ e);
-      unchanged = check-left heads count joined message budget version ceiling before n plan e;
-    }
+    checked-making (frozenTests heads before) (tryFromFrozen (proposal heads count joined message budget version ceiling)) (refusal-passes notDone (frozenTests heads before) refl)
+    (frozen-fine (proposal heads count joined message budget version ceiling)) before n plan e
+making before n plan (converted heads count joined message budget version ceiling dialect e) =
+    checked-making (convertTests heads dialect before) (convertOf (dialectOf dialect) (proposal heads count joined message budget version ceiling)) (refusal-passes notDone (convertTests heads dialect before) refl)
+    (convert-fine (dialectOf dialect) (proposal heads count joined message budget version ceiling)) before n plan e
 
 -- ---- what is read
 

@@ -10,7 +10,7 @@ use Rattle.codec_c.specs.Codes.{codeOf, short, misspelled, unnamed}
 use Rattle.image.specs.Segments.{segmentOk}
 use Rattle.image_link.specs.Responses.{responseOk}
 use Rattle.sender_image.specs.Images.{recordOf}
-use Rattle.plan_c.specs.Calls.{planCall, planMessageCall, planEvenCall, partCall, planSegmentCall, tryFromFrozenCall}
+use Rattle.plan_c.specs.Calls.{planCall, planMessageCall, planEvenCall, partCall, planSegmentCall, tryFromFrozenCall, convertCall}
 use Rattle.receiver_c.specs.Calls as receiver
 use Rattle.train_c.specs.Calls as train
 use Rattle.sender_c.specs.Calls as sender
@@ -38,7 +38,7 @@ NeverMisspelled Makes Call = (l : List ℕ) → Written Makes Call l → (n : �
 
 -- ---- plans
 
--- catkhize_plan_message, catkhize_plan_even and catkhize_try_from_frozen
+-- catkhize_plan_message, catkhize_plan_even, catkhize_try_from_frozen and catkhize_convert
 pub data PlanMade (before : List ℕ) (n : ℕ) (plan : List ℕ) : Type 0 where
   planned : (message : List ℕ) (budget transaction window version ceiling : ℕ)
       → planCall n plan ≡ planMessageCall message budget transaction window version ceiling before → PlanMade before n plan
@@ -46,6 +46,8 @@ pub data PlanMade (before : List ℕ) (n : ℕ) (plan : List ℕ) : Type 0 where
       → planCall n plan ≡ planEvenCall message budget transaction window version ceiling before → PlanMade before n plan
   checked : (heads : List ℕ) (count : ℕ) (joined message : List ℕ) (budget version ceiling : ℕ)
       → planCall n plan ≡ tryFromFrozenCall heads count joined message budget version ceiling before → PlanMade before n plan
+  converted : (heads : List ℕ) (count : ℕ) (joined message : List ℕ) (budget version ceiling dialect : ℕ)
+      → planCall n plan ≡ convertCall heads count joined message budget version ceiling dialect before → PlanMade before n plan
 
 -- catkhize_plan_segment and catkhize_sender_new: both only read the plan, and nothing else as a value
 pub data PlanRead (others : Bool) (before : List ℕ) (n : ℕ) (after : List ℕ) : Type 0 where

@@ -2,11 +2,14 @@
 //! no record. (Records of receivers and senders are damaged where lists of calls run.)
 
 use crate::codec;
+use crate::dialects;
 use crate::spell::{self, filled};
 use crate::spells;
-use crate::table::{Area, EVEN_PLANNER, MORE_THAN_FITS, ONE_MORE, PAST_MESSAGE, TOO_MANY, Table};
-use crate::watch::{Checked, same, same_given};
-use bts136::l3::tsar::{Segment, SegmentKind};
+use crate::table::{
+    Area, CONVERTERS, EVEN_PLANNER, MORE_THAN_FITS, ONE_MORE, PAST_MESSAGE, TOO_MANY, Table,
+};
+use crate::watch::{Checked, number, same, same_given};
+use bts136::l3::tsar::{Segment, SegmentKind, SegmentedMessage};
 use catkhize::{calls, layout};
 use record::fields::take_head;
 use record::make::frozen::any_cutting;
@@ -14,6 +17,7 @@ use record::make::heads::any_segment;
 use record::octets::{Put, Take};
 use record::play::plan::{Frozen, Head, Wanted};
 use record::random::Random;
+use record::refusals::Refusal;
 
 use crate::plans::{Planner, head_octets, port_frozen, port_plan};
 
@@ -33,7 +37,8 @@ pub fn plans(table: &mut Table, seed: u64) -> Checked {
     planner(table.area("planner"), calls::plan_message, &lengths)?;
     planner(table.area(EVEN_PLANNER), calls::plan_even, &lengths)?;
     plan_segments(table.area("planner"), random, &lengths)?;
-    frozen(table.area("frozen check"), random)
+    frozen(table.area("frozen check"), random)?;
+    converter(table, random)
 }
 
 /// SEGMENTs of every length, and with every octet set to every value.
@@ -287,9 +292,9 @@ fn part_of(area: &mut Area, plan: &[u8], index: u8) -> Checked {
     }
 }
 
+/// The frozen check with buffers that are too short, and with changed heads.
 fn frozen(area: &mut Area, random: &mut Random) -> Checked {
     let cutting = any_cutting(random);
-    let heads = head_octets(&cutting);
     let (joined, message) = (cutting.joined(), cutting.message());
     let check = |heads: &[u8], plan: &mut [u8]| {
         calls::try_from_frozen(
@@ -303,6 +308,58 @@ fn frozen(area: &mut Area, random: &mut Random) -> Checked {
             plan,
         )
     };
+    let expected = |changed: &Frozen| gives(&changed.check());
+    train_buffers(area, random, &cutting, &check, &expected)
+}
+
+/// The converter with buffers that are too short and with changed heads, for dialects and for numbers that name none; and every such number
+/// where 20 is due too.
+fn converter(table: &mut Table, random: &mut Random) -> Checked {
+    for dialect in [0, 1, 2, 255] {
+        let mut cutting = dialects::restated(&any_cutting(random), dialect % 2);
+        // There is room for a length on every segment.
+        cutting.budget += 4;
+        cutting.ceiling = cutting.budget;
+        let convert =
+            |heads: &[u8], plan: &mut [u8]| dialects::convert(&cutting, heads, dialect, plan);
+        let expected = |changed: &Frozen| match dialect {
+            0 | 1 => gives(&dialects::converted(changed, dialect)),
+            _ => NAMES_NONE,
+        };
+        let area = table.area(CONVERTERS[usize::from(dialect % 2)]);
+        let named = |what: String| format!("convert, dialect {dialect}: {what}");
+        train_buffers(area, random, &cutting, &convert, &expected).map_err(named)?;
+    }
+    let mut cutting = any_cutting(random);
+    cutting.ceiling = cutting.budget - 1;
+    for dialect in 2..=255 {
+        let mut plan = filled(layout::PLAN);
+        let found = dialects::convert(&cutting, &head_octets(&cutting), dialect, &mut plan);
+        table
+            .area(CONVERTERS[usize::from(dialect % 2)])
+            .count(found);
+        same_given(found, NAMES_NONE)?;
+        same("plan", &plan, &filled(layout::PLAN))?;
+    }
+    Ok(())
+}
+
+fn gives(expected: &Result<SegmentedMessage, Refusal>) -> u32 {
+    expected
+        .as_ref()
+        .map_or_else(|refusal| number(*refusal), |_| 0)
+}
+
+/// A call on a train, with HEADS and PLANs that are too short, and with HEADS of which an octet is changed. What it gives where that spells
+/// heads is expected of the train with these.
+fn train_buffers(
+    area: &mut Area,
+    random: &mut Random,
+    cutting: &Frozen,
+    call: &dyn Fn(&[u8], &mut [u8]) -> u32,
+    expected: &dyn Fn(&Frozen) -> u32,
+) -> Checked {
+    let heads = head_octets(cutting);
     for octets in [
         0,
         1,
@@ -311,14 +368,14 @@ fn frozen(area: &mut Area, random: &mut Random) -> Checked {
         random.below(layout::HEADS),
     ] {
         let mut plan = filled(layout::PLAN);
-        let found = check(&heads[..octets], &mut plan);
+        let found = call(&heads[..octets], &mut plan);
         area.count(found);
         same_given(found, SHORT)?;
         same("plan", &plan, &filled(layout::PLAN))?;
     }
     for octets in [0, 1, layout::PLAN - 1, random.below(layout::PLAN)] {
         let mut plan = filled(octets);
-        let found = check(&heads, &mut plan);
+        let found = call(&heads, &mut plan);
         area.count(found);
         same_given(found, SHORT)?;
         same("plan", &plan, &filled(octets))?;
@@ -336,10 +393,10 @@ fn frozen(area: &mut Area, random: &mut Random) -> Checked {
             random.below(8) as u8
         };
         let mut plan = filled(layout::PLAN);
-        let found = check(&heads, &mut plan);
+        let found = call(&heads, &mut plan);
         area.count(found);
         let expected = if spells::heads(&heads) {
-            spelled_heads(&cutting, &heads)
+            expected(&spelled_heads(cutting, &heads))
         } else {
             SPELLS_NONE
         };
@@ -353,8 +410,8 @@ fn frozen(area: &mut Area, random: &mut Random) -> Checked {
     Ok(())
 }
 
-/// What the original says of a cutting with these heads.
-fn spelled_heads(cutting: &Frozen, heads: &[u8]) -> u32 {
+/// A cutting with these heads.
+fn spelled_heads(cutting: &Frozen, heads: &[u8]) -> Frozen {
     let mut take = Take(heads);
     let mut changed = cutting.clone();
     changed.heads = (0..cutting.count)
@@ -374,8 +431,5 @@ fn spelled_heads(cutting: &Frozen, heads: &[u8]) -> u32 {
             head.data_octets = 0;
         }
     }
-    match changed.check() {
-        Ok(_) => 0,
-        Err((n, m)) => 256 * u32::from(n) + u32::from(m),
-    }
+    changed
 }

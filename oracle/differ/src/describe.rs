@@ -1,5 +1,6 @@
 //! A call in words, for who reads a disagreement.
 
+use crate::dialects;
 use crate::even;
 use crate::exceptions;
 use crate::receiver::{RELEASE, TRAIN};
@@ -79,7 +80,7 @@ pub fn describe(case: &Case) -> String {
         0x11 => {
             let mut check = Frozen::take_fixed(&mut take);
             check.take_heads(&mut take);
-            format!("try_from_frozen: {}", frozen(&check))
+            format!("try_from_frozen and convert: {}", frozen(&check))
         }
         0x20 => {
             let opening = Receiving::take(&mut take);
@@ -138,8 +139,12 @@ pub fn describe(case: &Case) -> String {
                 Some(_) => "; then the planned plan of the same segments in its record",
                 None => "",
             };
+            let made = match dialects::source(&check) {
+                Some((_, read)) => format!("converted from dialect {read}"),
+                None => "frozen".to_owned(),
+            };
             format!(
-                "sender try_new: frozen, {}; {}{kept}",
+                "sender try_new: {made}, {}; {}{kept}",
                 frozen(&check),
                 sender(&opening)
             )

@@ -2,7 +2,8 @@
 //!
 //! differ [--seed S] [--rounds N] [--threads T] [--shrink 0] [--areas LETTERS]
 //!
-//! LETTERS are some of c (codec), p (planners and frozen check), r (receiver), t (trains), s (sender); all of them if none is given.
+//! LETTERS are some of c (codec), p (planners, frozen check and converter), r (receiver), t (trains), s (sender); all of them if none is
+//! given.
 //!
 //! It runs through what can be run through whole, then N rounds of random and systematic inputs, prints what it ran, and ends with status
 //! 1 where the two disagree (after the smallest input found), or where a refusal, a state or an input that a run has to have was not seen.
@@ -10,6 +11,7 @@
 mod buffers;
 mod codec;
 mod describe;
+mod dialects;
 mod even;
 mod exceptions;
 mod made_up;
@@ -47,6 +49,8 @@ const CODEC_CASES: usize = 400_000;
 const CODEC_PARTS: u64 = 4;
 /// Lists with trains of a round.
 const TRAINS: usize = 2_000;
+/// Random trains for the converter of a round, beside the systematic ones.
+const DIALECT_TRAINS: usize = 1_500;
 
 /// A part of a run, done by one thread.
 #[derive(Clone, Copy)]
@@ -55,6 +59,7 @@ enum Item {
     Sender(u64),
     Train(u64),
     Plans(u64),
+    Dialects(u64),
     Codec(u64),
     CodecRandom(u64),
     Exhaustive(u8),
@@ -69,7 +74,7 @@ impl Item {
             Item::Receiver(_) => 'r',
             Item::Sender(_) => 's',
             Item::Train(_) => 't',
-            Item::Plans(_) | Item::PlanBuffers(_) => 'p',
+            Item::Plans(_) | Item::Dialects(_) | Item::PlanBuffers(_) => 'p',
             _ => 'c',
         }
     }
@@ -127,6 +132,7 @@ fn items(arguments: &Arguments) -> Vec<Item> {
         items.extend((0..CODEC_PARTS).map(|part| Item::CodecRandom(seed(6 + part))));
         items.extend([
             Item::Plans(seed(3)),
+            Item::Dialects(seed(11)),
             Item::CodecBuffers(seed(5)),
             Item::PlanBuffers(seed(10)),
             Item::Receiver(seed(1)),
@@ -161,6 +167,9 @@ fn run(item: Item, sheet: &Shared) {
             watch::<TrainChecker>(sheet, seed, |record| trains::make(record, TRAINS))
         }
         Item::Plans(seed) => watch::<PlanChecker>(sheet, seed, make::plan::make),
+        Item::Dialects(seed) => watch::<PlanChecker>(sheet, seed, |record| {
+            dialects::trains::make(record, DIALECT_TRAINS)
+        }),
         Item::Codec(seed) => watch::<CodecChecker>(sheet, seed, make::codec::make),
         Item::CodecRandom(seed) => {
             let result = {

@@ -1,5 +1,6 @@
-//! Plans: both planners, segment i of a plan, and the frozen check.
+//! Plans: both planners, segment i of a plan, the frozen check and the converter.
 
+use crate::dialects;
 use crate::even;
 use crate::exceptions;
 use crate::spell::{self, FILLING, filled};
@@ -8,7 +9,7 @@ use crate::table::{
     EVEN_WHOLE, Table, WINDOW_AND_CAPACITY, WINDOW_AND_CODEC, WINDOW_AND_COUNT, WINDOW_PLAN,
     WINDOW_WHOLE,
 };
-use crate::watch::{Case, Checked, Checker, given, same, same_given};
+use crate::watch::{Case, Checked, Checker, number, same, same_given};
 use bts136::l3::tsar::{MessagePlan, Segment, SegmentedMessage};
 use catkhize::{calls, layout};
 use record::fields::EXCEPTIONS;
@@ -35,16 +36,14 @@ impl Checker for PlanChecker {
         true
     }
 
-    fn check(&mut self, _: &mut Plans, case: &Case, answer: &[u8], table: &mut Table) -> Checked {
+    fn check(&mut self, _: &mut Plans, case: &Case, _: &[u8], table: &mut Table) -> Checked {
         self.plans += 1;
         let all = self.plans.is_multiple_of(16);
         let mut take = Take(&case.input);
         if case.op == PLAN {
             planners(table, &Wanted::take(&mut take), all)
         } else {
-            let mut frozen = Frozen::take_fixed(&mut take);
-            frozen.take_heads(&mut take);
-            frozen_check(table.area(FROZEN_CHECK), &frozen, given(answer), all)
+            train(table, &Frozen::take(&mut take), all)
         }
     }
 
@@ -74,7 +73,7 @@ impl Checker for PlanChecker {
 }
 
 /// Octets past a plan's layout, which stay as they are.
-const MORE: usize = 3;
+pub const MORE: usize = 3;
 
 /// An entry of a planner.
 pub type Planner = fn(&[u8], u64, u8, u8, u8, u64, &mut [u8]) -> u32;
@@ -94,7 +93,7 @@ pub fn port_plan(planner: Planner, wanted: &Wanted, message: &[u8]) -> (u32, Vec
     (given, plan)
 }
 
-/// Both planners on a message; and the even train through the frozen check.
+/// Both planners on a message; and the even train.
 fn planners(table: &mut Table, wanted: &Wanted, all: bool) -> Checked {
     let message = pattern(wanted.message_octets, wanted.seed);
     let original = exceptions::planned(wanted);
@@ -113,8 +112,7 @@ fn planners(table: &mut Table, wanted: &Wanted, all: bool) -> Checked {
         return Ok(());
     };
     even_inputs(area, &original);
-    let train = even::train(wanted, &original);
-    frozen_check(table.area(FROZEN_CHECK), &train, 0, all).map_err(named)
+    train(table, &even::train(wanted, &original), all).map_err(named)
 }
 
 /// What comes before or behind 25, by what the original answers under Exceptions.
@@ -157,8 +155,8 @@ fn planner(
 ) -> Checked {
     area.count(found);
     match original {
-        Err((n, m)) => {
-            same_given(found, 256 * u32::from(*n) + u32::from(*m))?;
+        Err(refusal) => {
+            same_given(found, number(*refusal))?;
             same("plan", &plan, &filled(layout::PLAN + MORE))
         }
         Ok(MessagePlan::Unsegmented(_)) => {
@@ -224,15 +222,13 @@ pub fn head_octets(frozen: &Frozen) -> Vec<u8> {
     for head in frozen.heads.iter().take(MAX_SEGMENTS) {
         octets.put_all(&spell::head(&head.segment, head.data_octets));
     }
-    // Heads past the count are not read: the last one stands there again, or the empty one.
-    let last = octets.len().saturating_sub(layout::HEAD);
-    let filler = octets.get(last..).map(<[u8]>::to_vec).unwrap_or_default();
+    // Heads past the count are not read: the last one stands there again, but for its stated length, or the empty one.
+    let filler = frozen.heads.last().map_or(vec![0; layout::HEAD], |last| {
+        let amiss = dialects::amiss(&last.segment, frozen.message_octets as u16);
+        spell::head(&amiss, last.data_octets)
+    });
     while octets.len() < layout::HEADS {
-        if filler.is_empty() {
-            octets.put8(0);
-        } else {
-            octets.put_all(&filler);
-        }
+        octets.put_all(&filler);
     }
     octets
 }
@@ -253,17 +249,38 @@ pub fn port_frozen(frozen: &Frozen) -> (u32, Vec<u8>) {
     (given, plan)
 }
 
-fn frozen_check(area: &mut Area, frozen: &Frozen, expected: u32, all: bool) -> Checked {
-    let (found, plan) = port_frozen(frozen);
-    area.count(found);
-    same_given(found, expected)?;
-    match frozen.check() {
-        Err(_) => same("plan", &plan, &filled(layout::PLAN + MORE)),
+/// The frozen check of a train, and the converter.
+fn train(table: &mut Table, frozen: &Frozen, all: bool) -> Checked {
+    frozen_check(table.area(FROZEN_CHECK), frozen, all)?;
+    dialects::converts(table, frozen)
+}
+
+fn frozen_check(area: &mut Area, frozen: &Frozen, all: bool) -> Checked {
+    let original = frozen.check();
+    let found = port_frozen(frozen);
+    area.count(found.0);
+    same_frozen(&found, &original)?;
+    match original {
+        Err(_) => Ok(()),
+        Ok(original) => segments(area, &found.1, &original, all),
+    }
+}
+
+/// What a call that writes a frozen plan gave, and the plan's octets.
+pub fn same_frozen(
+    (found, plan): &(u32, Vec<u8>),
+    expected: &Result<SegmentedMessage, Refusal>,
+) -> Checked {
+    match expected {
+        Err(refusal) => {
+            same_given(*found, number(*refusal))?;
+            same("plan", plan, &filled(layout::PLAN + MORE))
+        }
         Ok(original) => {
-            let mut expected = spell::frozen(&original);
+            same_given(*found, 0)?;
+            let mut expected = spell::frozen(original);
             expected.put_all(&[FILLING; MORE]);
-            same("plan", &plan, &expected)?;
-            segments(area, &plan, &original, all)
+            same("plan", plan, &expected)
         }
     }
 }

@@ -1,6 +1,7 @@
 //! Senders: every call, with every octet of the record, and what is offered.
 
 use crate::buffers::{FORM, PLANNED, WINDOW};
+use crate::dialects;
 use crate::even;
 use crate::exceptions;
 use crate::made_up;
@@ -8,8 +9,8 @@ use crate::plans::{port_frozen, port_plan};
 use crate::spell::{self, FILLING, SENDER_PLAN, Tickets, filled};
 use crate::spells;
 use crate::table::{
-    Area, EVEN_SENDER, EXCEPTIONS_KEPT, EXCEPTIONS_PLANNED, EXCEPTIONS_SENDER, FROZEN_SENDER,
-    FULL_MAP, FULL_SENDER, LATE_SUBMISSION, NEITHER_PLANNER, OTHER_PLANNER, Table,
+    Area, CONVERTED_SENDERS, EVEN_SENDER, EXCEPTIONS_KEPT, EXCEPTIONS_PLANNED, EXCEPTIONS_SENDER,
+    FROZEN_SENDER, FULL_MAP, FULL_SENDER, LATE_SUBMISSION, NEITHER_PLANNER, OTHER_PLANNER, Table,
 };
 use crate::watch::{Case, Checked, Checker, given, same, same_given};
 use bts136::l3::broadcast::ProtocolVersion;
@@ -173,7 +174,14 @@ impl Port {
             frozen.take_heads(&mut take);
             area.input(FROZEN_SENDER);
             kept = exceptions::kept(&frozen);
-            (port_frozen(&frozen), frozen.message(), opening)
+            let planned = match dialects::source(&frozen) {
+                Some((source, read)) => {
+                    area.input(CONVERTED_SENDERS[usize::from(read)]);
+                    dialects::port_converted(&source, read)
+                }
+                None => port_frozen(&frozen),
+            };
+            (planned, frozen.message(), opening)
         };
         let (given, plan) = planned;
         same_given(given, 0).map_err(|what| format!("the plan: {what}"))?;

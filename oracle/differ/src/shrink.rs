@@ -189,9 +189,11 @@ fn smaller(case: &Case) -> Vec<Case> {
     }
     if case.op == 0x11 {
         found.extend(fewer_heads(case, 26));
+        found.extend(shorter_data(case, 26));
     }
     if case.op == 0x36 {
         found.extend(fewer_heads(case, 47));
+        found.extend(shorter_data(case, 47));
     }
     found
 }
@@ -284,13 +286,8 @@ fn fewer_heads(case: &Case, heads: usize) -> Vec<Case> {
             heads + from * HEAD_AND_LENGTH,
             heads + to * HEAD_AND_LENGTH,
         );
-        let less = |case: &Case, at: usize, width: usize, by: u64| {
-            let value = number(&case.input[at..at + width]);
-            with_number(case, at, width, value.saturating_sub(by))
-        };
         let fewer = less(&fewer, 0, 2, (to - from) as u64);
-        let fewer = less(&fewer, 2, 4, dropped);
-        let mut fewer = less(&fewer, 16, 4, dropped);
+        let mut fewer = shorter_message(&fewer, heads, dropped);
         found.push(fewer.clone());
         for place in from..count - (to - from) {
             let sequence = heads + place * HEAD_AND_LENGTH + 1;
@@ -299,6 +296,39 @@ fn fewer_heads(case: &Case, heads: usize) -> Vec<Case> {
         found.push(fewer);
     }
     found
+}
+
+/// A frozen plan with fewer data octets in a segment.
+fn shorter_data(case: &Case, heads: usize) -> Vec<Case> {
+    let mut found = Vec::new();
+    for place in (heads..case.input.len()).step_by(HEAD_AND_LENGTH) {
+        let data = place + 15;
+        let octets = number(&case.input[data..data + 2]);
+        for by in [octets, octets.div_ceil(2), 1] {
+            if (1..=octets).contains(&by) {
+                found.push(shorter_message(&less(case, data, 2, by), heads, by));
+            }
+        }
+    }
+    found
+}
+
+/// A frozen plan whose message and joined data are shorter; heads that state the message's length state what is left of it.
+fn shorter_message(case: &Case, heads: usize, by: u64) -> Case {
+    let whole = number(&case.input[2..6]);
+    let mut shorter = less(&less(case, 2, 4, by), 16, 4, by);
+    for place in (heads..case.input.len()).step_by(HEAD_AND_LENGTH) {
+        if number(&case.input[place + 4..place + 6]) == whole {
+            shorter = less(&shorter, place + 4, 2, by);
+        }
+    }
+    shorter
+}
+
+/// A number of an input, lowered.
+fn less(case: &Case, at: usize, width: usize, by: u64) -> Case {
+    let value = number(&case.input[at..at + width]);
+    with_number(case, at, width, value.saturating_sub(by))
 }
 
 /// Where an op's input has readings.

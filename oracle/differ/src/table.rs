@@ -71,12 +71,20 @@ fn refusal_name(number: u32) -> String {
 }
 
 /// The refusals that a run has to see, by area. 24, 40, 41, 60 to 63 and 256 to 258 lie outside document 01's domain, as no list of calls on
-/// right buffers gives them; the run reaches them with damaged plans, records and buffers. 25 is document 02's.
-const REFUSALS: [(&str, &str); 9] = [
+/// right buffers gives them; the run reaches them with damaged plans, records and buffers. 25 and 26 are document 02's.
+const REFUSALS: [(&str, &str); 11] = [
     ("codec", "1 2 3 4 5 6/1 6/2 6/3 6/4 6/5 7 8 61 256 257"),
     ("planner", "1 6/1 20 21 22 25 256 257 258"),
     (EVEN_PLANNER, "1 6/1 20 21 22 25 256 258"),
     ("frozen check", "1 6/1 6/2 6/3 6/4 6/5 20 22 23 24 256 257"),
+    (
+        FROM_BEGIN_ONLY,
+        "1 6/1 6/2 6/3 6/4 6/5 20 22 23 24 26 256 257 258",
+    ),
+    (
+        FROM_EVERY,
+        "1 6/1 6/2 6/3 6/4 6/5 20 22 23 24 26 256 257 258",
+    ),
     (
         "receiver",
         "1 6/1 6/2 6/3 6/4 6/5 30 31 32 33 34 35 36 37 38 60 61 62 256 257 258",
@@ -96,11 +104,16 @@ const REFUSALS: [(&str, &str); 9] = [
 /// The area of plan_even.
 pub const EVEN_PLANNER: &str = "even planner";
 
+/// The areas of convert, by the dialect that is read.
+pub const CONVERTERS: [&str; 2] = [FROM_BEGIN_ONLY, FROM_EVERY];
+const FROM_BEGIN_ONLY: &str = "convert from Begin only";
+const FROM_EVERY: &str = "convert from every segment";
+
 /// The letter by which an area is asked for.
 fn letter(area: &str) -> char {
     match area {
         "codec" => 'c',
-        "planner" | EVEN_PLANNER | "frozen check" => 'p',
+        "planner" | EVEN_PLANNER | "frozen check" | FROM_BEGIN_ONLY | FROM_EVERY => 'p',
         "receiver" | "release" | "receivers released" => 'r',
         "train" => 't',
         _ => 's',
@@ -171,6 +184,11 @@ pub const EXCEPTIONS_PLANNED: &str =
     "planned plans under Exceptions that are none of the planners'";
 pub const EXCEPTIONS_KEPT: &str = "senders of planned plans under Exceptions";
 pub const EXCEPTIONS_HANDED: &str = "messages handed over under Exceptions";
+/// By the dialect that was read.
+pub const CONVERTED_SENDERS: [&str; 2] = [
+    "senders of plans converted from Begin only",
+    "senders of plans converted from every segment",
+];
 pub const OTHER_PLANNER: &str = "plans changed into the other planner's";
 pub const NEITHER_PLANNER: &str = "plans with a later capacity of neither planner";
 pub const PAST_MESSAGE: &str = "segments of made-up plans that would begin past the message";
@@ -188,6 +206,24 @@ pub const EVEN_LEFT: &str = "plans with octets left over";
 pub const EVEN_TWO: &str = "plans of two segments";
 pub const EVEN_MOST: &str = "plans of 256 segments with octets left over";
 pub const EVEN_LONGER_END: &str = "plans whose End is longer than plan_message's";
+pub const CONVERTED: &str = "trains converted";
+pub const CONVERTED_BACK: &str = "trains converted there and back";
+pub const CONVERTED_FULL: &str = "trains converted within a budget of their longest segment";
+pub const CONVERTED_EMPTY: &str = "trains of empty messages converted";
+pub const CONVERTED_LONGEST: &str = "trains of 4,095 octets converted";
+pub const TOO_LONG_FOR_A_LENGTH: &str = "26 for trains of 4,096 octets";
+pub const NO_LENGTH: &str = "26 for trains without a length";
+pub const OTHER_DIALECT: &str = "26 for trains in the dialect to be written";
+pub const BEGIN_AMISS: &str = "26 for the Begin alone";
+pub const FIRST_AMISS: &str = "26 for the segment behind the Begin alone";
+pub const CONTINUE_AMISS: &str = "26 for a later Continue alone";
+pub const END_AMISS: &str = "26 for the End alone";
+pub const BUDGET_BY_CONTINUE: &str = "20 by one converted Continue";
+pub const BUDGET_BY_END: &str = "20 by the converted End alone";
+pub const BUDGET_BY_SEVERAL: &str = "20 by several converted segments";
+pub const PATTERN_AND_BUDGET: &str = "26 and 20 by a converted segment both due";
+pub const CHECK_AND_BUDGET: &str =
+    "another refusal of the frozen check and 20 by a converted segment both due";
 
 /// The last entry of a word and the first of the next: maps whose first missing entry they are.
 pub const WORD_EDGES: [(usize, &str); 6] = [
@@ -199,7 +235,66 @@ pub const WORD_EDGES: [(usize, &str); 6] = [
     (192, "maps with 192 the first missing"),
 ];
 
-const INPUTS: [(&str, &str); 49] = [
+/// Counts of segments that a run has to convert, and the windows.
+pub const CONVERTED_COUNTS: [(usize, &str); 4] = [
+    (2, "trains of two segments converted"),
+    (3, "trains of three segments converted"),
+    (255, "trains of 255 segments converted"),
+    (256, "trains of 256 segments converted"),
+];
+pub const CONVERTED_WINDOWS: [&str; 6] = [
+    "trains under Prohibited converted",
+    "trains under Every4 converted",
+    "trains under Every8 converted",
+    "trains under Every16 converted",
+    "trains under Last converted",
+    "trains under Exceptions converted",
+];
+
+/// The frozen check's refusals, each where the train is not in the dialect being read either.
+pub const CHECK_AND_PATTERN: [(u32, &str); 10] = [
+    (256, "1 and 26 both due"),
+    (6 * 256 + 1, "6/1 and 26 both due"),
+    (6 * 256 + 2, "6/2 and 26 both due"),
+    (6 * 256 + 3, "6/3 and 26 both due"),
+    (6 * 256 + 4, "6/4 and 26 both due"),
+    (6 * 256 + 5, "6/5 and 26 both due"),
+    (20 * 256, "20 and 26 both due"),
+    (22 * 256, "22 and 26 both due"),
+    (23 * 256, "23 and 26 both due"),
+    (24 * 256, "24 and 26 both due"),
+];
+
+/// What a run has to see of both converters.
+fn converter_inputs() -> impl Iterator<Item = (&'static str, &'static str)> {
+    let inputs = [
+        CONVERTED,
+        CONVERTED_BACK,
+        CONVERTED_FULL,
+        CONVERTED_EMPTY,
+        CONVERTED_LONGEST,
+        TOO_LONG_FOR_A_LENGTH,
+        NO_LENGTH,
+        OTHER_DIALECT,
+        BEGIN_AMISS,
+        FIRST_AMISS,
+        CONTINUE_AMISS,
+        END_AMISS,
+    ];
+    let inputs = inputs
+        .into_iter()
+        .chain(CONVERTED_COUNTS.map(|(_, name)| name))
+        .chain(CONVERTED_WINDOWS)
+        .chain(CHECK_AND_PATTERN.map(|(_, name)| name));
+    inputs.flat_map(|name| CONVERTERS.map(|area| (area, name)))
+}
+
+const INPUTS: [(&str, &str); 56] = [
+    (FROM_BEGIN_ONLY, BUDGET_BY_CONTINUE),
+    (FROM_BEGIN_ONLY, BUDGET_BY_END),
+    (FROM_BEGIN_ONLY, BUDGET_BY_SEVERAL),
+    (FROM_BEGIN_ONLY, PATTERN_AND_BUDGET),
+    (FROM_BEGIN_ONLY, CHECK_AND_BUDGET),
     ("planner", PAST_MESSAGE),
     ("planner", ONE_MORE),
     ("planner", MORE_THAN_FITS),
@@ -249,6 +344,8 @@ const INPUTS: [(&str, &str); 49] = [
     ("sender", EXCEPTIONS_SENDER),
     ("sender", EXCEPTIONS_PLANNED),
     ("sender", EXCEPTIONS_KEPT),
+    ("sender", CONVERTED_SENDERS[0]),
+    ("sender", CONVERTED_SENDERS[1]),
 ];
 
 fn receiver_state_name(state: [u8; 4]) -> String {
@@ -346,7 +443,8 @@ impl Table {
                 missing.push(format!("sender: state {}", sender_state_name(state)));
             }
         }
-        for (name, input) in INPUTS.into_iter().filter(|(name, _)| runs(name)) {
+        let inputs = INPUTS.into_iter().chain(converter_inputs());
+        for (name, input) in inputs.filter(|(name, _)| runs(name)) {
             if !area(name).inputs.contains_key(input) {
                 missing.push(format!("{name}: {input}"));
             }

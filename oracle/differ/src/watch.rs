@@ -4,6 +4,7 @@ use crate::table::Table;
 use record::list::{Player, Recorder, Watcher};
 use record::octets::Take;
 use record::random::Random;
+use record::refusals::Refusal;
 use std::cell::RefCell;
 use std::panic::{self, AssertUnwindSafe};
 use std::rc::Rc;
@@ -252,10 +253,15 @@ pub fn same_given(found: u32, expected: u32) -> Checked {
     ))
 }
 
+/// The number that a refusal is given by.
+pub fn number((n, m): Refusal) -> u32 {
+    256 * u32::from(n) + u32::from(m)
+}
+
 /// The number that a recorded answer stands for.
 pub fn given(answer: &[u8]) -> u32 {
     match answer {
-        [1, n, m, ..] => 256 * u32::from(*n) + u32::from(*m),
+        [1, n, m, ..] => number((*n, *m)),
         _ => 0,
     }
 }

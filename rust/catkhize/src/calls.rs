@@ -74,6 +74,21 @@ mod c {
             plan: *mut u8,
             plan_octets: usize,
         ) -> u32;
+        pub fn catkhize_convert(
+            heads: *const u8,
+            heads_octets: usize,
+            count: u64,
+            joined: *const u8,
+            joined_octets: usize,
+            message: *const u8,
+            message_octets: usize,
+            budget: u64,
+            version: u8,
+            ceiling: u64,
+            dialect: u8,
+            plan: *mut u8,
+            plan_octets: usize,
+        ) -> u32;
         pub fn catkhize_receiver_new(
             record: *mut u8,
             record_octets: usize,
@@ -386,6 +401,37 @@ pub fn try_from_frozen(
         budget,
         version,
         ceiling,
+        plan.as_mut_ptr(),
+        plan.len(),
+    ))
+}
+
+/// Converts a train, given as [`try_from_frozen`] takes it, out of the dialect being read (0: the Begin alone states the message's length, 1:
+/// every segment does) into the other.
+#[allow(clippy::too_many_arguments)]
+pub fn convert(
+    heads: &[u8],
+    count: u64,
+    joined: &[u8],
+    message: &[u8],
+    budget: u64,
+    version: u8,
+    ceiling: u64,
+    dialect: u8,
+    plan: &mut [u8],
+) -> u32 {
+    call!(catkhize_convert(
+        heads.as_ptr(),
+        heads.len(),
+        count,
+        joined.as_ptr(),
+        joined.len(),
+        message.as_ptr(),
+        message.len(),
+        budget,
+        version,
+        ceiling,
+        dialect,
         plan.as_mut_ptr(),
         plan.len(),
     ))

@@ -1,7 +1,22 @@
 use crate::octets::Take;
+use crate::segment::numbered;
 use crate::{AcknowledgmentWindow, Given, Refusal, Segment, calls, layout};
 
 const MAX_SEGMENTS: usize = 256;
+
+numbered! {
+    /// Which segments of a train state the message's length: the two dialects that [`SegmentedMessage::convert`] goes between.
+    ///
+    /// ```
+    /// assert_eq!(catkhize::Dialect::Every as u8, 1);
+    /// ```
+    Dialect {
+        /// The Begin alone.
+        BeginOnly = 0,
+        /// Every segment, as one modem family wants it.
+        Every = 1,
+    }
+}
 
 /// What a planner, [`plan_message`] or [`plan_even`], gives.
 ///
@@ -171,6 +186,98 @@ impl<'a> SegmentedMessage<'a> {
         version: u8,
         ceiling: u64,
     ) -> Result<Self, Refusal> {
+        Self::of(segments, message, |heads, joined, record| {
+            calls::try_from_frozen(
+                heads,
+                segments.len() as u64,
+                joined,
+                message,
+                payload_budget_octets,
+                version,
+                ceiling,
+                record,
+            )
+        })
+    }
+
+    /// Converts the train out of the dialect being read into the other: one modem family wants the message's length on every segment, the
+    /// rest have it on the Begin only. What comes out is a frozen plan of the same message, budget and window; its segments are the plan's
+    /// own, but for the length that the later ones state.
+    ///
+    /// It is refused, in this order:
+    /// - as [`try_from_frozen`](Self::try_from_frozen) is: with a plan's own segments that is for a ceiling below the budget
+    ///   ([`Refusal::PAYLOAD_BUDGET`]), then for a version below 1 ([`Refusal::VERSION`]);
+    /// - for a train that is not in the dialect being read, also one that is in the wanted dialect already, or in none
+    ///   ([`Refusal::OTHER_PATTERN`]); [`dialect`](Self::dialect) tells which it is in;
+    /// - where a converted segment passes the budget ([`Refusal::PAYLOAD_BUDGET`]): in [`Dialect::Every`] each later segment is 2 octets
+    ///   longer. A train that is read in [`Dialect::Every`] is never refused for this.
+    ///
+    /// There and back, and what is refused:
+    ///
+    /// ```
+    /// use catkhize::*;
+    /// let begin = SegmentKind::Begin { message_length: Some(3), services: None };
+    /// let end = |message_length| SegmentKind::End { message_length, crc: None };
+    /// let segment = |sequence_number, segment_data, kind| Segment { transaction_id: 2, sequence_number, segment_data, kind };
+    /// let segments = [segment(0, b"a", begin), segment(1, b"bc", end(None))];
+    /// let plan = SegmentedMessage::try_from_frozen(&segments, b"abc", 7, 1, 7)?;
+    /// let every = plan.convert(Dialect::BeginOnly, 1, 7)?;
+    /// assert_eq!(every.segment(0), Some(segments[0]));
+    /// assert_eq!(every.segment(1), Some(segment(1, b"bc", end(Some(3)))));
+    /// assert_eq!(every.convert(Dialect::Every, 1, 7)?, plan);
+    ///
+    /// assert_eq!(plan.convert(Dialect::Every, 1, 7), Err(Refusal::OTHER_PATTERN));
+    /// assert_eq!(every.convert(Dialect::BeginOnly, 1, 7), Err(Refusal::OTHER_PATTERN));
+    /// let tight = SegmentedMessage::try_from_frozen(&segments, b"abc", 6, 1, 6)?;
+    /// assert_eq!(tight.convert(Dialect::BeginOnly, 1, 6), Err(Refusal::PAYLOAD_BUDGET));
+    /// # Ok::<(), Refusal>(())
+    /// ```
+    ///
+    /// A planner's plan is converted too, where its Begin states the length ([`dialect`](Self::dialect)). The way back then gives the frozen
+    /// plan of the same segments, and not the planned one. Where its segments leave no room in its budget, give them to
+    /// [`try_from_frozen`](Self::try_from_frozen) with a larger one first; 2 octets more are then enough, where the ceiling allows them:
+    ///
+    /// ```
+    /// use catkhize::*;
+    /// let window = AcknowledgmentWindow::Prohibited;
+    /// let segments = |plan: &SegmentedMessage<'static>| (0..=255).map_while(|i| plan.segment(i)).collect::<Vec<_>>();
+    /// // Of 3, 3 and 3 octets.
+    /// let MessagePlan::Segmented(plan) = plan_even(b"012345678", 8, 2, window, 1, 10)? else { panic!("9 octets are more than 8") };
+    /// let frozen = SegmentedMessage::try_from_frozen(&segments(&plan), plan.message(), 8, 1, 10)?;
+    /// let back = plan.convert(Dialect::BeginOnly, 1, 10)?.convert(Dialect::Every, 1, 10)?;
+    /// assert_eq!(back, frozen);
+    /// assert_ne!(back, plan);
+    ///
+    /// // Of 3, 5 and 1.
+    /// let MessagePlan::Segmented(plan) = plan_message(b"012345678", 8, 2, window, 1, 10)? else { panic!("9 octets are more than 8") };
+    /// assert_eq!(plan.convert(Dialect::BeginOnly, 1, 10), Err(Refusal::PAYLOAD_BUDGET));
+    /// let frozen = SegmentedMessage::try_from_frozen(&segments(&plan), plan.message(), 10, 1, 10)?;
+    /// assert_eq!(frozen.convert(Dialect::BeginOnly, 1, 10)?.convert(Dialect::Every, 1, 10)?, frozen);
+    /// # Ok::<(), Refusal>(())
+    /// ```
+    pub fn convert(&self, read: Dialect, version: u8, ceiling: u64) -> Result<Self, Refusal> {
+        let segments: Vec<Segment<'a>> = self.segments().collect();
+        Self::of(&segments, self.message, |heads, joined, record| {
+            calls::convert(
+                heads,
+                segments.len() as u64,
+                joined,
+                self.message,
+                self.payload_budget_octets(),
+                version,
+                ceiling,
+                read as u8,
+                record,
+            )
+        })
+    }
+
+    /// The plan that a call makes of segments: it is given their HEADs, their data joined, and a record to write.
+    fn of(
+        segments: &[Segment<'_>],
+        message: &'a [u8],
+        call: impl FnOnce(&[u8], &[u8], &mut [u8]) -> u32,
+    ) -> Result<Self, Refusal> {
         let mut heads = vec![0; layout::HEADS];
         let mut joined = Vec::new();
         for (head, segment) in heads
@@ -182,16 +289,7 @@ impl<'a> SegmentedMessage<'a> {
             joined.extend_from_slice(segment.segment_data);
         }
         let mut record = vec![0; layout::PLAN];
-        let given = calls::try_from_frozen(
-            &heads,
-            segments.len() as u64,
-            &joined,
-            message,
-            payload_budget_octets,
-            version,
-            ceiling,
-            &mut record,
-        );
+        let given = call(&heads, &joined, &mut record);
         Given::new(given).done()?;
         Ok(Self { record, message })
     }
@@ -204,6 +302,39 @@ impl<'a> SegmentedMessage<'a> {
             return None;
         }
         Segment::take(&mut Take(&answer), self.message, None)
+    }
+
+    /// All segments, from the Begin on.
+    fn segments(&self) -> impl Iterator<Item = Segment<'a>> {
+        (0..=u8::MAX).map_while(|index| self.segment(index))
+    }
+
+    /// The dialect that the plan's train is in, if it is in one. [`convert`](Self::convert) gives [`Refusal::OTHER_PATTERN`] for every other.
+    ///
+    /// A train whose Begin states no length is in none. Planners make such trains of messages over 4,095 octets, and where the budget passes
+    /// the Begin's bare header (3 octets, or 5 with services) by 2 or less.
+    ///
+    /// ```
+    /// use catkhize::*;
+    /// let dialect = |budget| {
+    ///     let plan = plan_message(b"0123456", budget, 2, AcknowledgmentWindow::Prohibited, 1, 6)?;
+    ///     let MessagePlan::Segmented(plan) = plan else { panic!("7 octets are more than 6") };
+    ///     Ok::<_, Refusal>(plan.dialect())
+    /// };
+    /// assert_eq!(dialect(6)?, Some(Dialect::BeginOnly));
+    /// assert_eq!(dialect(5)?, None);
+    /// # Ok::<(), Refusal>(())
+    /// ```
+    pub fn dialect(&self) -> Option<Dialect> {
+        let stated: Vec<bool> = self
+            .segments()
+            .map(|segment| segment.kind.message_length().is_some())
+            .collect();
+        match stated.as_slice() {
+            [true, later @ ..] if !later.contains(&true) => Some(Dialect::BeginOnly),
+            [true, later @ ..] if !later.contains(&false) => Some(Dialect::Every),
+            _ => None,
+        }
     }
 
     /// Whether the plan is a frozen one: which of two offsets holds.

@@ -1,7 +1,8 @@
 use std::error::Error;
 use std::fmt;
 
-/// Why a call was refused: document 01's refusal n/m, 25 of document 02 (request 2026-09), or one of the exports' own (256 to 258).
+/// Why a call was refused: document 01's refusal n/m, 25 or 26 of document 02 (requests 2026-09 and 2026-06), or one of the exports' own
+/// (256 to 258).
 ///
 /// A refused call changes nothing, but in the late cases that [the crate](crate#refused-calls) names.
 ///
@@ -77,6 +78,8 @@ refusals! {
     JOINED_LENGTH = 24 / 0, "JoinedLength";
     /// A message that needs segments, to be planned under the window Exceptions.
     EXCEPTIONS_WINDOW = 25 / 0, "ExceptionsWindow";
+    /// A train that is not in the dialect being read.
+    OTHER_PATTERN = 26 / 0, "OtherPattern";
     /// No peer, or another than the machine's.
     IDENTITY = 30 / 0, "Identity";
     /// No protocol that is served, or another than the machine's.

@@ -195,6 +195,17 @@ pub struct DecodedSegment<'a> {
     pub unparsed_octets: &'a [u8],
 }
 
+impl SegmentKind {
+    /// The length of the message, where it is stated.
+    pub(crate) fn message_length(self) -> Option<u16> {
+        match self {
+            Self::Begin { message_length, .. }
+            | Self::Continue { message_length }
+            | Self::End { message_length, .. } => message_length,
+        }
+    }
+}
+
 fn put_length(put: &mut Put, length: Option<u16>) {
     put.flag(length.is_some());
     put.put16(length.unwrap_or(0));

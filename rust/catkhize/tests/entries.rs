@@ -288,6 +288,311 @@ fn frozen() {
     assert_eq!(frozen[70..], heads);
 }
 
+/// HEADS with the message's length where `states` says so, and without it elsewhere.
+fn restated(heads: &[u8], states: &[bool]) -> Vec<u8> {
+    let mut heads = heads.to_vec();
+    for (head, states) in heads.chunks_mut(layout::HEAD).zip(states) {
+        let stated = [1, 0, MESSAGE.len() as u8];
+        head[3..6].copy_from_slice(if *states { &stated } else { &[0; 3] });
+    }
+    heads
+}
+
+/// Both ways and back, by whole plans: those that the frozen check gives of the two trains. A head past the count comes out empty.
+#[test]
+fn conversions() {
+    let begin_only = heads_of(&plan(0), 3);
+    let every = restated(&begin_only, &[true; 3]);
+    assert_eq!(restated(&every, &[true, false, false]), begin_only);
+    let frozen = |heads: &[u8]| {
+        let mut record = filled(layout::PLAN);
+        let given = calls::try_from_frozen(heads, 3, MESSAGE, MESSAGE, 8, 1, 8, &mut record);
+        assert_eq!(given, 0);
+        record
+    };
+    let converted = |heads: &[u8], dialect| {
+        let mut record = filled(layout::PLAN + 9);
+        let given = calls::convert(heads, 3, MESSAGE, MESSAGE, 8, 1, 8, dialect, &mut record);
+        assert_eq!(given, 0);
+        assert!(untouched(&record[layout::PLAN..]));
+        record.truncate(layout::PLAN);
+        record
+    };
+    for (dialect, read, written) in [(0, &begin_only, &every), (1, &every, &begin_only)] {
+        let mut more = read.clone();
+        more.copy_within(layout::HEAD..2 * layout::HEAD, 3 * layout::HEAD);
+        assert_ne!(&more, read);
+        let record = converted(&more, dialect);
+        assert!(record == frozen(written));
+        let back = converted(&record[layout::PLAN - layout::HEADS..], 1 - dialect);
+        assert!(back == frozen(read));
+    }
+}
+
+/// 256, 257, 258, the frozen check's refusals, 26 and 20, each before the next. Beside each the plan is as it was.
+#[test]
+fn conversions_refused() {
+    let begin_only = heads_of(&plan(0), 3);
+    let every = restated(&begin_only, &[true; 3]);
+    let none = restated(&begin_only, &[false; 3]);
+    // The last head is a Begin with a CRC.
+    let mut wrong = none.clone();
+    wrong[layout::HEADS - 9] = 1;
+    let short = &wrong[..layout::HEADS - 1];
+    let (empty, other) = (b"".as_slice(), b"0123457".as_slice());
+    let too_short = Refusal::BUFFER_TOO_SHORT;
+    let pattern = Refusal::OTHER_PATTERN;
+    let over = Refusal::PAYLOAD_BUDGET;
+    // HEADS, count, joined data, budget, version, dialect, octets that PLAN lacks; the ceiling is 8.
+    let rows = [
+        (short, 1, empty, 9, 0, 2, 0, too_short),
+        (&wrong, 1, empty, 9, 0, 2, 1, too_short),
+        (&wrong, 1, empty, 9, 0, 2, 0, Refusal::BUFFER_SPELLS_NONE),
+        (&none, 1, empty, 9, 0, 2, 0, Refusal::NUMBER_NAMES_NONE),
+        (&none, 1, empty, 9, 0, 255, 0, Refusal::NUMBER_NAMES_NONE),
+        (&none, 1, empty, 9, 0, 0, 0, over),
+        (&none, 1, empty, 6, 0, 0, 0, Refusal::SEGMENT_COUNT),
+        (&none, 3, empty, 6, 0, 0, 0, Refusal::JOINED_LENGTH),
+        (&none, 3, other, 6, 0, 0, 0, Refusal::VERSION),
+        (&none, 3, other, 6, 1, 0, 0, Refusal::FROZEN_PLAN),
+        (&none, 3, MESSAGE, 5, 1, 0, 0, over),
+        (&none, 3, MESSAGE, 6, 1, 0, 0, pattern),
+        (&none, 3, MESSAGE, 6, 1, 1, 0, pattern),
+        (&begin_only, 3, MESSAGE, 6, 1, 1, 0, pattern),
+        (&every, 3, MESSAGE, 8, 1, 0, 0, pattern),
+        (&begin_only, 3, MESSAGE, 6, 1, 0, 0, over),
+        (&begin_only, 3, MESSAGE, 7, 1, 0, 0, over),
+    ];
+    for (heads, count, joined, budget, version, dialect, lacks, expected) in rows {
+        let mut record = filled(layout::PLAN);
+        let given = calls::convert(
+            heads,
+            count,
+            joined,
+            MESSAGE,
+            budget,
+            version,
+            8,
+            dialect,
+            &mut record[lacks..],
+        );
+        assert_eq!(refusal(given), expected);
+        assert!(untouched(&record));
+    }
+    assert_eq!(refusal(6656), Refusal::OTHER_PATTERN);
+    assert_eq!(refusal(6656).to_string(), "refusal 26: OtherPattern");
+    assert_eq!(format!("{:?}", refusal(6656)), "Refusal(26 OtherPattern)");
+    assert!(!Refusal::OTHER_PATTERN.is_own());
+}
+
+/// A message in segments of an octet each, which state its length where `states` says so.
+fn one_by_one(message: &[u8], states: impl Fn(usize) -> bool) -> Vec<Segment<'_>> {
+    let last = message.len() - 1;
+    let segment = |(index, segment_data)| {
+        let message_length = Some(message.len() as u16).filter(|_| states(index));
+        let services = None;
+        let kind = match index {
+            0 => SegmentKind::Begin {
+                message_length,
+                services,
+            },
+            _ if index == last => end(message_length),
+            _ => SegmentKind::Continue { message_length },
+        };
+        Segment {
+            transaction_id: 2,
+            sequence_number: index as u8,
+            segment_data,
+            kind,
+        }
+    };
+    message.chunks(1).enumerate().map(segment).collect()
+}
+
+/// Every pattern of stated lengths in 2 to 6 segments, and some in 256: `dialect` agrees with 26, and what is converted goes back.
+#[test]
+fn dialects() {
+    use Dialect::{BeginOnly, Every};
+    let octets: Vec<u8> = (0..=255).collect();
+    let judge = |count: usize, states: &dyn Fn(usize) -> bool, dialect: Option<Dialect>| {
+        let message = &octets[..count];
+        let frozen = |segments: &[Segment<'_>]| {
+            let plan = SegmentedMessage::try_from_frozen(segments, message, 6, 1, 6);
+            plan.expect("a true cutting")
+        };
+        let plan = frozen(&one_by_one(message, states));
+        assert_eq!(plan.dialect(), dialect);
+        let every = frozen(&one_by_one(message, |_| true));
+        let begin_only = frozen(&one_by_one(message, |index| index == 0));
+        for (read, written, other) in [(BeginOnly, every, Every), (Every, begin_only, BeginOnly)] {
+            if dialect == Some(read) {
+                assert_eq!(plan.convert(read, 1, 6), Ok(written.clone()));
+                assert_eq!(written.dialect(), Some(other));
+                assert_eq!(written.convert(other, 1, 6), Ok(plan.clone()));
+            } else {
+                assert_eq!(plan.convert(read, 1, 6), Err(Refusal::OTHER_PATTERN));
+            }
+        }
+    };
+    for count in 2..=6 {
+        for pattern in 0..1 << count {
+            let dialect = match pattern {
+                1 => Some(BeginOnly),
+                _ if pattern == (1 << count) - 1 => Some(Every),
+                _ => None,
+            };
+            judge(count, &|index| pattern >> index & 1 == 1, dialect);
+        }
+    }
+    judge(256, &|index| index == 0, Some(BeginOnly));
+    judge(256, &|_| true, Some(Every));
+    judge(256, &|_| false, None);
+    judge(256, &|index| index != 0, None);
+    for odd in [1, 128, 254, 255] {
+        judge(256, &|index| index == 0 || index == odd, None);
+        judge(256, &|index| index != odd, None);
+    }
+}
+
+/// The smallest trains, of 0 octets and of 1: as they are encoded, and the budgets that they are converted with.
+#[test]
+fn smallest_conversions() {
+    let encoded = |plan: &SegmentedMessage<'_>| {
+        [0, 1].map(|index| {
+            let mut output = filled(layout::ENCODING);
+            let segment = plan.segment(index).expect("two segments");
+            let written = segment.encode(1, &mut output).expect("a plan's segments");
+            output[..written].to_vec()
+        })
+    };
+    // The message, its Begin, its End, the End that states the length, and the least budget with room for that.
+    let judge = |message: &[u8], begin: &[u8], end: &[u8], stating: &[u8], least: u64| {
+        let segments = [begin, end].map(|octets| decoded(octets).segment);
+        let frozen =
+            |budget| SegmentedMessage::try_from_frozen(&segments, message, budget, 1, budget);
+        assert_eq!(frozen(4), Err(Refusal::PAYLOAD_BUDGET));
+        for budget in 5..least {
+            let plan = frozen(budget).expect("a true cutting");
+            let refused = plan.convert(Dialect::BeginOnly, 1, budget);
+            assert_eq!(refused, Err(Refusal::PAYLOAD_BUDGET));
+        }
+        let plan = frozen(least).expect("a true cutting");
+        assert_eq!(encoded(&plan), [begin, end]);
+        let every = plan.convert(Dialect::BeginOnly, 1, least);
+        let every = every.expect("there is room");
+        assert_eq!(encoded(&every), [begin, stating]);
+        assert_eq!(every.convert(Dialect::Every, 1, least), Ok(plan));
+    };
+    let (begin, end, stating) = ([0, 0, 0, 0x10, 0], [0x10, 1, 0], [0x10, 1, 0, 0x10, 0]);
+    judge(b"", &begin, &end, &stating, 5);
+    let (begin, end) = ([0, 0, 0, 0x10, 1], [0x10, 1, 1, 0x41]);
+    judge(b"A", &begin, &end, &[0x10, 1, 1, 0x41, 0x10, 1], 6);
+}
+
+/// Plans of both planners: which dialect they are in, what their own budget has room for, and that 2 octets more are enough.
+#[test]
+fn planned_dialects() {
+    type Planner =
+        fn(&[u8], u64, u8, AcknowledgmentWindow, u8, u64) -> Result<MessagePlan<'_>, Refusal>;
+    let long = vec![7; 4_096];
+    let mut seen = [0; 3];
+    let mut judge = |plans: Planner, octets: usize, budget: u64, window: AcknowledgmentWindow| {
+        let Ok(MessagePlan::Segmented(plan)) = plans(&long[..octets], budget, 2, window, 1, 300)
+        else {
+            return;
+        };
+        let segments: Vec<Segment<'_>> = (0..=255).map_while(|i| plan.segment(i)).collect();
+        let bare = match window {
+            AcknowledgmentWindow::Prohibited => 3,
+            _ => 5,
+        };
+        if octets > 4_095 || budget <= bare + 2 {
+            seen[0] += 1;
+            assert_eq!(plan.dialect(), None);
+            for read in [Dialect::BeginOnly, Dialect::Every] {
+                assert_eq!(plan.convert(read, 1, 300), Err(Refusal::OTHER_PATTERN));
+            }
+            return;
+        }
+        assert_eq!(plan.dialect(), Some(Dialect::BeginOnly));
+        let fits = |segment: &Segment<'_>| segment.segment_data.len() as u64 + 5 <= budget;
+        let converted = plan.convert(Dialect::BeginOnly, 1, 300);
+        let frozen =
+            |budget| SegmentedMessage::try_from_frozen(&segments, plan.message(), budget, 1, 300);
+        if segments[1..].iter().all(fits) {
+            seen[1] += 1;
+            let converted = converted.expect("there is room");
+            assert_eq!(converted.convert(Dialect::Every, 1, 300), frozen(budget));
+        } else {
+            seen[2] += 1;
+            assert_eq!(converted, Err(Refusal::PAYLOAD_BUDGET));
+        }
+        let more = frozen(budget + 2).expect("a true cutting");
+        let converted = more
+            .convert(Dialect::BeginOnly, 1, 300)
+            .expect("2 octets more");
+        assert_eq!(converted.convert(Dialect::Every, 1, 300), Ok(more));
+    };
+    for plans in [plan_message as Planner, plan_even] {
+        for window in [AcknowledgmentWindow::Prohibited, AcknowledgmentWindow::Last] {
+            for budget in (4..=12).chain(258..=261) {
+                for octets in (5..=24).chain([509, 510, 1_000, 4_095, 4_096]) {
+                    judge(plans, octets, budget, window);
+                }
+            }
+        }
+    }
+    assert!(!seen.contains(&0), "{seen:?}");
+}
+
+/// A converted plan, from a sender to a receiver in both dialects.
+#[test]
+fn converted_exchange() {
+    let message = b"0123456789";
+    let window = AcknowledgmentWindow::Last;
+    let Ok(MessagePlan::Segmented(plan)) = plan_even(message, 9, 2, window, 1, 9) else {
+        panic!("10 octets are more than 9");
+    };
+    let every = plan
+        .convert(Dialect::BeginOnly, 1, 9)
+        .expect("there is room");
+    let begin_only = every
+        .convert(Dialect::Every, 1, 9)
+        .expect("it is the way back");
+    for (plan, stated) in [(every, [0x10, 10].as_slice()), (begin_only, &[])] {
+        let train = [
+            b"\x02\x00\x0201\x10\x0a\x20\x20".to_vec(),
+            [b"\x0a\x01\x042345", stated].concat(),
+            [b"\x12\x02\x046789", stated].concat(),
+        ];
+        assert_eq!(plan.acknowledgment_window(), window);
+        let mut sender = Sender::try_new(PEER, PROTOCOL, &plan, 1, 9, 0).expect("a frozen plan");
+        let mut receiver = Receiver::try_new(PEER, PROTOCOL, 2, 1, 10, 0).expect("a right peer");
+        for (index, octets) in train.iter().enumerate() {
+            let submission = sender.submission().ok().flatten().expect("an offer");
+            let mut output = filled(layout::ENCODING);
+            let written = submission.segment.encode(1, &mut output);
+            assert_eq!(written, Ok(octets.len()));
+            assert_eq!(&output[..octets.len()], octets);
+            assert!(sender.submitted(&submission, 10, 10).is_ok());
+            assert!(sender.accepted(&submission, 10).is_ok());
+            let reception = receiver.receive(PEER, PROTOCOL, &decoded(octets), 10);
+            let reception = reception.expect("it is taken");
+            assert_eq!(
+                reception.message,
+                Some(message.as_slice()).filter(|_| index == 2)
+            );
+            assert_eq!(reception.response.is_some(), index == 2);
+            if let Some(reported) = reception.response {
+                let state = sender.receive_response(PEER, PROTOCOL, &reported.response, 0, 10);
+                assert_eq!(state, Ok(SenderState::Complete(Completion::PeerReceived)));
+            }
+        }
+        assert_eq!(sender.submission(), Ok(None));
+        assert_eq!(receiver.state(), ReceiverState::Complete);
+    }
+}
+
 #[test]
 fn receivers() {
     let mut record = receiver(65_280);
@@ -899,6 +1204,7 @@ fn empty_buffers() {
         calls::plan_even(&[], 0, 0, 0, 0, 0, none),
         calls::plan_segment(&[], 0, none),
         calls::try_from_frozen(&[], 0, &[], &[], 0, 0, 0, none),
+        calls::convert(&[], 0, &[], &[], 0, 0, 0, 9, none),
         calls::receiver_new(none, origin(), 0, 0, 0, 0),
         calls::receiver_receive(none, a, b, origin(), &[], &[], 0, 0, c),
         calls::receiver_advance(none, a, 0, b),
@@ -955,6 +1261,13 @@ fn odd_arguments() {
         let _ = plan_message(&long, budget, 9, AcknowledgmentWindow::Every16, 0, ceiling);
         let _ = plan_even(&long, budget, 9, AcknowledgmentWindow::Every16, 0, ceiling);
     }
+    let plan = planned(AcknowledgmentWindow::Prohibited);
+    for read in [Dialect::BeginOnly, Dialect::Every] {
+        let below = plan.payload_budget_octets() - 1;
+        assert_eq!(plan.convert(read, 0, below), Err(Refusal::PAYLOAD_BUDGET));
+        assert_eq!(plan.convert(read, 0, u64::MAX), Err(Refusal::VERSION));
+    }
+    assert_eq!(Dialect::from_number(2), None);
     let mut receiver =
         Receiver::try_new(PEER, PROTOCOL, 7, 1, u64::MAX, u64::MAX).expect("a right peer");
     let decoded = DecodedSegment {

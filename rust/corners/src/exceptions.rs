@@ -17,7 +17,7 @@ pub struct Cutting {
 
 impl Cutting {
     /// The length that the Begin states.
-    pub fn stated(&self) -> Option<u16> {
+    fn stated(&self) -> Option<u16> {
         self.states_length.then_some(self.octets as u16)
     }
 

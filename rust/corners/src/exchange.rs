@@ -1,19 +1,25 @@
-//! Frozen trains under Exceptions from a sender to a receiver: what the sender offers is encoded, decoded and received, singly and as a train, and
-//! what the receiver answers goes to the sender. Under Exceptions it answers timeouts and failures, and neither the message nor a repeat.
+//! Frozen trains under Exceptions, and converted ones, from a sender to a receiver: what the sender offers is encoded, decoded and received, singly
+//! and as a train, and what the receiver answers goes to the sender. Under Exceptions it answers timeouts and failures, and neither the message nor
+//! a repeat.
 
 use self::By::{Singly, Train};
+use crate::dialects::{self, BOTH, EMPTY, MOST, ROOM, SERVED, TWO, WINDOWS};
 use crate::exceptions::{ALL, Cutting, SIX, THREE};
-use crate::octets::{FILL, PAST, Segment, at_front, difference, filled, head, pattern, window};
+use crate::octets::{
+    FILL, PAST, Segment, at_front, difference, filled, head, pattern, stated, window,
+};
 use crate::receiver::bench::{Lent, Reported, answer, reported};
 use crate::receiver::record::{self, Record};
 use crate::receiver::rows::{self, Call, Kind, Map, Outcome, Row, TRANSACTION};
 use crate::sender::bench::{
-    EXCEPTION_INTERVAL_ELAPSED, INTERVAL, ORIGIN, OWN, PEER_RECEIVED, Response, Sent, VERSION,
-    awaiting_accept, awaiting_response, case, ended, marks, peer_failed, prepared, try_new,
+    EXCEPTION_INTERVAL_ELAPSED, INTERVAL, LOWER_LAYER_ACCEPTED, ORIGIN, OWN, PEER_RECEIVED,
+    Response, Sent, VERSION, awaiting_accept, awaiting_response, case, ended, marks, peer_failed,
+    prepared, try_new,
 };
-use crate::sender::plan::frozen_of;
+use crate::sender::plan::{Plan, converted_of, frozen_of};
 use crate::tally::{Group, Tally};
-use catkhize::AcknowledgmentWindow::Exceptions;
+use catkhize::AcknowledgmentWindow::{self, Exceptions, Last, Prohibited};
+use catkhize::Dialect;
 use catkhize::Status::{MessageTooLong, Received};
 use catkhize::{calls, layout};
 
@@ -35,7 +41,7 @@ enum By {
 struct Exchange<'a> {
     group: &'a mut Group,
     by: By,
-    cutting: Cutting,
+    asked: AcknowledgmentWindow,
     heads: Vec<(Segment, u64)>,
     message: Vec<u8>,
     sent: Sent,
@@ -49,11 +55,38 @@ struct Exchange<'a> {
 type Carried = (Option<Reported>, Option<u64>);
 
 impl<'a> Exchange<'a> {
-    /// A receiver of messages of up to so many octets.
+    /// A frozen train under Exceptions, and a receiver of messages of up to so many octets.
     fn new(group: &'a mut Group, by: By, cutting: Cutting, maximum: usize) -> Self {
         let heads = cutting.heads(TRANSACTION);
         let message = pattern(cutting.octets, SEED);
         let plan = frozen_of(&heads, &message, cutting.budget);
+        Self::of(group, by, Exceptions, heads, message, plan, maximum)
+    }
+
+    /// A train that was converted, and a receiver of messages of just its octets.
+    fn converted(
+        group: &'a mut Group,
+        by: By,
+        cutting: dialects::Cutting,
+        (read, written): (Dialect, Dialect),
+    ) -> Self {
+        let message = pattern(cutting.octets, SEED);
+        let plan = converted_of(&cutting.heads(TRANSACTION, read), &message, ROOM, read);
+        let heads = cutting.heads(TRANSACTION, written);
+        let asked = cutting.window;
+        Self::of(group, by, asked, heads, message, plan, cutting.octets)
+    }
+
+    /// A plan, which has these segments of the message.
+    fn of(
+        group: &'a mut Group,
+        by: By,
+        asked: AcknowledgmentWindow,
+        heads: Vec<(Segment, u64)>,
+        message: Vec<u8>,
+        plan: Plan,
+        maximum: usize,
+    ) -> Self {
         let sent = try_new(&plan, &message, MADE);
         let maximum = maximum as u64;
         let mut lent = Lent::new();
@@ -62,7 +95,7 @@ impl<'a> Exchange<'a> {
         Self {
             group,
             by,
-            cutting,
+            asked,
             heads,
             message,
             sent,
@@ -83,16 +116,16 @@ impl<'a> Exchange<'a> {
         &self.message[self.offset(index) as usize..][..octets]
     }
 
-    /// A segment's octets: type and transaction, sequence, data, and of the Begin length and services.
+    /// A segment's octets: type and transaction, sequence, data, the length where it is stated, and of the Begin services.
     fn octets(&self, index: usize) -> Vec<u8> {
         let (segment, data) = (self.heads[index].0, self.data(index));
         let kind = segment[2];
         let mut octets = vec![kind << 3 | TRANSACTION, index as u8, data.len() as u8];
         octets.extend(data);
-        if index == 0 {
-            let length = self.cutting.stated();
-            octets.extend(length.into_iter().flat_map(|n| (0x1000 | n).to_be_bytes()));
-            octets.extend([0x20, 0x28]);
+        let length = stated(segment).into_iter();
+        octets.extend(length.flat_map(|n| (0x1000 | n).to_be_bytes()));
+        if index == 0 && self.asked != Prohibited {
+            octets.extend([0x20, (self.asked as u8) << 3]);
         }
         octets
     }
@@ -135,31 +168,36 @@ impl<'a> Exchange<'a> {
         self.offers(index);
         let ticket = self.submissions;
         self.submissions += 1;
-        self.deadline = Some(reading + INTERVAL);
+        let closes = self.asked == Prohibited && index + 1 == self.heads.len();
+        self.deadline = (!closes).then_some(reading + INTERVAL);
         let handed = self.sent.sender.submitted(OWN, ticket, reading, reading);
         let wanted = awaiting_accept(self.deadline, self.submissions);
         case(self.group, handed, wanted);
         self.sent = handed.sender.accepted(OWN, ticket, reading);
     }
 
-    /// All of these are sent, and the sender awaits a response.
+    /// All of these are sent, and the sender awaits a response; under Prohibited it is done.
     fn sends_all(&mut self, indices: &[usize], reading: u64) {
         for index in indices {
             self.sends(*index, reading);
         }
-        let wanted = awaiting_response(self.deadline, self.submissions);
+        let wanted = match self.asked {
+            Prohibited => ended(LOWER_LAYER_ACCEPTED, self.submissions),
+            _ => awaiting_response(self.deadline, self.submissions),
+        };
         case(self.group, self.sent, wanted);
     }
 
     /// The call that brings a segment.
     fn call(&self, index: usize, reading: u64) -> Call {
         let (sequence, octets) = (index as u8, self.heads[index].1 as usize);
+        let services = window(self.asked).filter(|_| self.asked != Prohibited);
         let mut call = match index {
-            0 => rows::begin(window(Exceptions), octets, reading),
+            0 => rows::begin(services, octets, reading),
             _ if index + 1 == self.heads.len() => rows::end(sequence, octets, reading),
             _ => rows::later(sequence, octets, reading),
         };
-        call.stated = self.cutting.stated().filter(|_| index == 0);
+        call.stated = stated(self.heads[index].0);
         call
     }
 
@@ -264,7 +302,7 @@ impl<'a> Exchange<'a> {
         &mut self,
         indices: &[usize],
         reading: u64,
-        last: fn(Call) -> Row,
+        last: impl Fn(Call) -> Row,
     ) -> Option<Reported> {
         let mut rows: Vec<Row> = indices
             .iter()
@@ -405,6 +443,39 @@ fn too_long(g: &mut Group) {
     }
 }
 
+/// A converted train arrives in order: the message is handed over by the last segment, which is answered where the window has responses to it, and
+/// so is a repeat.
+fn arrives(g: &mut Group, by: By, cutting: dialects::Cutting, dialects: (Dialect, Dialect)) {
+    let mut e = Exchange::converted(g, by, cutting, dialects);
+    let count = e.heads.len();
+    let answered = ![Prohibited, Exceptions].contains(&e.asked);
+    let entries = if answered { count as u16 } else { 0 };
+    let all: Vec<usize> = (0..count).collect();
+    e.sends_all(&all, SENT);
+    let whole = |row: Row| row.marks(entries, marks(0..count));
+    let response = e.takes(&all, SENT, |call| whole(call.hands_over()));
+    e.takes(&[0], SENT, |call| whole(call.repeats()));
+    if let Some(response) = response {
+        e.hears(response, SENT);
+        let received = ended(PEER_RECEIVED, e.submissions);
+        case(e.group, e.sent, received);
+    } else if e.asked == Exceptions {
+        e.ends();
+    }
+}
+
+/// Trains in which only the last segment is answered, if any.
+fn converted(g: &mut Group, by: By) {
+    for dialects in BOTH {
+        for window in WINDOWS {
+            for cutting in [EMPTY, TWO, SERVED] {
+                arrives(g, by, cutting.under(window), dialects);
+            }
+        }
+        arrives(g, by, MOST.under(Last), dialects);
+    }
+}
+
 pub fn corners(tally: &mut Tally) {
     let title = "exchange: frozen trains under Exceptions, segment by segment";
     tally.group(title, |g| whole(g, Singly));
@@ -412,4 +483,8 @@ pub fn corners(tally: &mut Tally) {
     tally.group(title, |g| whole(g, Train));
     tally.group("exchange: segments lost under Exceptions", lost);
     tally.group("exchange: messages too long under Exceptions", too_long);
+    let title = "exchange: converted trains, segment by segment";
+    tally.group(title, |g| converted(g, Singly));
+    let title = "exchange: converted trains, in one call";
+    tally.group(title, |g| converted(g, Train));
 }

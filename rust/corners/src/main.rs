@@ -1,8 +1,9 @@
 //! The corners of document 01 and the boundary of each refusal, run on the exports and compared with what document 01 says (document 02 of
-//! release, the even planner and the planners under Exceptions, docs/EXPORTS.md of the exports' own refusals), a line for each group. A case that
-//! comes out otherwise is printed, and the status is then 1.
+//! release, the even planner, the planners under Exceptions and the converter, docs/EXPORTS.md of the exports' own refusals), a line for each group.
+//! A case that comes out otherwise is printed, and the status is then 1.
 
 mod codec;
+mod dialects;
 mod even;
 mod exceptions;
 mod exchange;

@@ -157,6 +157,18 @@ pub fn placed(segment: Segment, sequence: u8) -> Segment {
     segment
 }
 
+/// The segment with this length stated, or none.
+pub fn stating(segment: Segment, length: Option<u16>) -> Segment {
+    let mut segment = segment;
+    segment[3..6].copy_from_slice(&flagged(length.map(u16::to_be_bytes)));
+    segment
+}
+
+/// The length that a segment states.
+pub fn stated(segment: Segment) -> Option<u16> {
+    (segment[3] == 1).then(|| u16::from_be_bytes([segment[4], segment[5]]))
+}
+
 /// HEAD: a segment with so many octets of data.
 pub fn head(segment: Segment, data_octets: u64) -> [u8; layout::HEAD] {
     let octets = [&segment[..], &data_octets.to_be_bytes()].concat();

@@ -12,9 +12,12 @@ const NAMES_NONE: u32 = 66_048;
 
 const TRANSACTION: u8 = 2;
 const NUMBER: u64 = 9;
-const MESSAGE: &[u8] = b"0123456";
-const BUDGET: u64 = 6;
+/// Under Last the message makes so many segments of at most so many octets, of which the Begin states the length, and of at most so many where every
+/// segment does.
+const MESSAGE: &[u8] = b"012345678";
 const COUNT: u8 = 3;
+const BUDGET: u64 = 8;
+const WIDER: u64 = 10;
 const READING: u64 = 100;
 
 /// The buffers that have a layout, and store and output.
@@ -38,6 +41,7 @@ struct Lent {
     store: Vec<u8>,
     output: Vec<u8>,
     window: u8,
+    dialect: u8,
     protocol: u8,
     failure: u8,
     version: u8,
@@ -49,6 +53,7 @@ struct Lent {
 #[derive(Clone, Copy)]
 enum Named {
     Window,
+    Dialect,
     Protocol,
     Failure,
 }
@@ -62,7 +67,7 @@ struct Entry {
     named: Option<Named>,
 }
 
-const ENTRIES: [Entry; 19] = [
+const ENTRIES: [Entry; 20] = [
     Entry {
         call: |l| {
             let [segment, .., answer] = &mut l.buffers;
@@ -138,6 +143,19 @@ const ENTRIES: [Entry; 19] = [
         lent: &[HEADS, PLAN],
         read: &[HEADS],
         named: None,
+    },
+    Entry {
+        call: |l| {
+            let [_, heads, _, plan, ..] = &mut l.buffers;
+            let (count, version, dialect) = (COUNT.into(), l.version, l.dialect);
+            calls::convert(
+                heads, count, MESSAGE, MESSAGE, WIDER, version, WIDER, dialect, plan,
+            )
+        },
+        answer: 0,
+        lent: &[HEADS, PLAN],
+        read: &[HEADS],
+        named: Some(Named::Dialect),
     },
     Entry {
         call: |l| {
@@ -314,6 +332,7 @@ impl Lent {
             store: filled(layout::STORE),
             output: filled(layout::STORE),
             window: last as u8,
+            dialect: 0,
             protocol: 0,
             failure: 0,
             version: 1,
@@ -398,6 +417,7 @@ impl Lent {
     fn name_none(&mut self, named: Named, above: u8) {
         match named {
             Named::Window => self.window = 6 + above,
+            Named::Dialect => self.dialect = 2 + above,
             Named::Protocol => self.protocol = 3 + above,
             Named::Failure => self.failure = 3 + above,
         }

@@ -1,10 +1,12 @@
-//! The corners of the planner and of the frozen check of document 01, of the even planner of document 02 and of both planners under Exceptions,
-//! and the boundary of each of their refusals.
+//! The corners of the planner and of the frozen check of document 01, of document 02's even planner, of both planners under Exceptions and of the
+//! converter, and the boundary of each of their refusals.
 
+mod convert;
 mod even;
 mod exceptions;
 mod frozen;
 mod planning;
+pub mod proposal;
 
 use crate::octets::{PAST, Segment, at_front, filled, head};
 use crate::tally::Tally;
@@ -81,4 +83,5 @@ pub fn corners(tally: &mut Tally) {
     even::corners(tally);
     exceptions::corners(tally);
     frozen::corners(tally);
+    convert::corners(tally);
 }

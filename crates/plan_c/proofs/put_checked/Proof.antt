@@ -1,14 +1,11 @@
--- `plan_c::put_checked` meets its contract: nothing is written beside a refusal, and else the plan as a sender has it, which its
--- octets then spell. Assumes nothing.
+-- `plan_c::put_checked` meets its contract: nothing is written beside a refusal, and else `put_frozen` writes the plan that was accepted. Assumes nothing.
 use borrow.Author.Needs.{needs}
 use mathlib.Core.Path.{sym, ap, _∙_}
 use Prim.Native.Nat.{ℕ}
 use denote.Ref.{now}
 use Rattle.segmentation.specs.Frozen.{answerBy}
 use Rattle.segmentation.specs.declared.FrozenAnswer.{FrozenAnswer}
-use Rattle.sender.specs.declared.Plan.{Plan}
-use Rattle.plan_c.specs.Calls.{planCall, planWritten, frozenGives}
-use Rattle.plan_c.specs.Laws.{writes}
+use Rattle.plan_c.specs.Calls.{planCall, frozenGives}
 use Rattle.plan_c.proofs.put_checked.Statement.{statement}
 use Rattle.plan_c.proofs.put_checked.Tie as tie
 
@@ -21,11 +18,8 @@ planning-code-requires c κs = search needs
 enum-told : tie.Need-enum-told
 enum-told c = search needs
 
-frozen-requires : tie.Need-frozen-requires
-frozen-requires c κs = search needs
-
-put-plan-requires : tie.Need-put-plan-requires
-put-plan-requires c κs = search needs
+put-frozen-requires : tie.Need-put-frozen-requires
+put-frozen-requires c κs = search needs
 
 returns : tie.Need-returns
 returns c =
@@ -38,12 +32,9 @@ same-length c = search needs
 
 returns-2 : tie.Need-returns-2
 returns-2 c =
-    let x = c .before .before .before .before .before .before .before .before .before in
-    let plan = now (x .args .plan) in
-    let put = c .before .before .put-plan .ensures in
-    writes plan _ _ (x .pre) (put .1) (put .0)
-    ∙ ap (λ (p : Plan). planWritten p plan) (c .before .before .before .frozen2 .ensures)
-    ∙ ap (λ (a : FrozenAnswer). frozenGives (answerBy a) (x .args .checked .plan) plan) (sym (c .before .before .before .before .before .before .enum-told .given .1))
+    let x = c .before .before .before .before .before .before .before .args in
+    c .before .before .put-frozen .ensures
+    ∙ ap (λ (a : FrozenAnswer). frozenGives (answerBy a) (x .checked .plan) (now (x .plan))) (sym (c .before .before .before .before .enum-told .given .1))
 
 pub put-checked-spec : {M : Type 1} → statement M
 put-checked-spec =
@@ -52,8 +43,7 @@ put-checked-spec =
     enum-known-answer
     planning-code-requires
     enum-told
-    frozen-requires
-    put-plan-requires
+    put-frozen-requires
     returns
     same-length
     returns-2)

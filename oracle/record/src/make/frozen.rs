@@ -19,7 +19,7 @@ pub fn make(record: &mut Record) {
     large(record, 40);
 }
 
-fn check(record: &mut Record, frozen: &Frozen) {
+pub fn check(record: &mut Record, frozen: &Frozen) {
     let mut input = Vec::new();
     frozen.put_fixed(&mut input);
     frozen.put_heads(&mut input);
@@ -225,7 +225,7 @@ fn frozen_from(segments: &[Segment], seed: u8, budget: usize) -> Frozen {
 }
 
 /// A train with the given data lengths and a budget that its longest segment just fits.
-fn cutting(random: &mut Random, lengths: &[usize], window: u8) -> Frozen {
+pub fn cutting(random: &mut Random, lengths: &[usize], window: u8) -> Frozen {
     let transaction_id = random.below(8) as u8;
     let spelled = services([0, window, 0]);
     let absent = window == 0 && random.once_in(2);
@@ -297,9 +297,9 @@ fn state_some_lengths(random: &mut Random, frozen: &mut Frozen) {
     frozen.ceiling += random.below(3);
 }
 
-const FAULTS: usize = 30;
+pub const FAULTS: usize = 30;
 
-fn break_it(random: &mut Random, frozen: &mut Frozen, fault: usize) {
+pub fn break_it(random: &mut Random, frozen: &mut Frozen, fault: usize) {
     let count = frozen.heads.len();
     let last = count - 1;
     let middle = random.below(count);

@@ -8,7 +8,7 @@ use catkhize::AcknowledgmentWindow::{self, Every4, Last, Prohibited};
 use catkhize::calls;
 
 /// The even planner, asked as plan_message is.
-fn evenly(budget: u64, window: AcknowledgmentWindow) -> Asked {
+pub fn evenly(budget: u64, window: AcknowledgmentWindow) -> Asked {
     Asked {
         planner: calls::plan_even,
         ..ask(budget, window)

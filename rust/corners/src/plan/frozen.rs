@@ -1,25 +1,17 @@
 //! The frozen check: a true cutting, and each kind of damage to it. The plan's record is compared whole, and stays as it was where the check
 //! refuses; an accepted plan has the heads for its segments.
 
+use super::proposal::{Proposal, Terms};
 use super::{frozen_plan, proposed, wrong_part};
 use crate::octets::{
-    PAST, Segment, begin, difference, end, filled, later, placed, refusal, services, window,
+    Segment, begin, difference, end, filled, later, placed, refusal, services, window,
 };
 use crate::tally::{Group, Tally};
 use catkhize::AcknowledgmentWindow::{self, Exceptions, Last, Prohibited};
 use catkhize::MessageCrc::{Crc16, Crc24};
-use catkhize::{Compression, CrcStatus, calls, layout};
+use catkhize::{Compression, CrcStatus};
 
 type Head = (Segment, u64);
-
-/// What is asked beside the heads, the joined data and the message.
-#[derive(Clone, Copy)]
-struct Terms {
-    count: u64,
-    budget: u64,
-    version: u8,
-    ceiling: u64,
-}
 
 /// Three segments of at most 6 octets.
 const THREE: Terms = Terms {
@@ -55,18 +47,13 @@ fn train() -> [Head; 3] {
 }
 
 fn check(heads: [Head; 3], terms: Terms, joined: &[u8], message: &[u8]) -> (u32, Vec<u8>) {
-    let mut plan = filled(layout::PLAN + PAST);
-    let given = calls::try_from_frozen(
-        &proposed(&heads),
-        terms.count,
-        joined,
-        message,
-        terms.budget,
-        terms.version,
-        terms.ceiling,
-        &mut plan,
-    );
-    (given, plan)
+    let proposal = Proposal {
+        heads: proposed(&heads),
+        joined: joined.to_vec(),
+        message: message.to_vec(),
+        terms,
+    };
+    proposal.freeze()
 }
 
 /// The check accepts the train, and keeps it.

@@ -1,7 +1,8 @@
 //! The planner: document 01's corners and the boundary of each refusal. A plan's record is compared whole; its segments, one after
 //! another, have to be the message, each is written and read back, and the frozen check takes them.
 
-use super::{Heads, Planner, frozen_plan, part, part_octets, proposed, wrong_part};
+use super::proposal::Proposal;
+use super::{Heads, Planner, frozen_plan, part, part_octets, wrong_part};
 use crate::octets::{
     PAST, Segment, at_front, begin, difference, end, filled, head, later, pattern, refusal, train,
 };
@@ -70,7 +71,7 @@ impl Asked {
     }
 
     /// The segments of a message that is cut so: the last one has the rest.
-    fn heads(self, octets: usize, cut: Cut) -> Vec<(Segment, u64)> {
+    pub fn heads(self, octets: usize, cut: Cut) -> Vec<(Segment, u64)> {
         let Cut(count, first, each, states_length) = cut;
         let mut data = vec![each; count as usize];
         data[0] = first;
@@ -107,18 +108,9 @@ pub fn stuck(heads: Heads, message: &[u8], asked: Asked) -> Option<usize> {
 
 /// The frozen check on segments, with the budget for a ceiling.
 pub fn freeze(heads: Heads, message: &[u8], asked: Asked) -> (u32, Vec<u8>) {
-    let mut plan = filled(layout::PLAN + PAST);
-    let given = calls::try_from_frozen(
-        &proposed(heads),
-        heads.len() as u64,
-        message,
-        message,
-        asked.budget,
-        asked.version,
-        asked.budget,
-        &mut plan,
-    );
-    (given, plan)
+    let mut proposal = Proposal::new(heads, message, asked.budget);
+    proposal.terms.version = asked.version;
+    proposal.freeze()
 }
 
 /// A message of so many octets is cut so.

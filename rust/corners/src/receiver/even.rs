@@ -1,14 +1,17 @@
-//! Trains of plan_even, and frozen ones under Exceptions, through a receiver: the Begin, then the End, then the others, of which the last one hands
-//! the message over.
+//! Trains of plan_even, frozen ones under Exceptions and converted ones, through a receiver: the Begin, then the End, then the others, of which the
+//! last one hands the message over.
 
 use super::bench::run;
 use super::rows::*;
+use crate::dialects::{self, BOTH, EMPTY, ROOM, THREE, TWO, WINDOWS};
 use crate::even::{Even, all};
 use crate::exceptions::{self, Cutting};
-use crate::octets::{filled, pattern, window};
-use crate::plan::{Heads, proposed, wrong_part};
+use crate::octets::{filled, pattern, stated, window};
+use crate::plan::proposal::Proposal;
+use crate::plan::{Heads, wrong_part};
 use crate::tally::{Group, Tally};
 use catkhize::AcknowledgmentWindow::{self, Every4, Every8, Every16, Exceptions, Prohibited};
+use catkhize::Dialect;
 use catkhize::{calls, layout};
 
 const AT: u64 = 1_000;
@@ -32,12 +35,13 @@ fn planned(g: &mut Group, even: Even, heads: Heads) {
 
 /// The frozen check takes the segments that are then received.
 fn frozen(g: &mut Group, cutting: Cutting, heads: Heads) {
-    let mut plan = filled(layout::PLAN);
-    let (count, budget) = (heads.len() as u64, cutting.budget);
-    let (proposed, message) = (proposed(heads), message(heads));
-    let given = calls::try_from_frozen(
-        &proposed, count, &message, &message, budget, 1, budget, &mut plan,
-    );
+    let (given, plan) = Proposal::new(heads, &message(heads), cutting.budget).freeze();
+    g.case((given, wrong_part(&plan, heads)), (0, None));
+}
+
+/// Converting a train gives the segments that are then received.
+fn converted(g: &mut Group, train: Heads, read: Dialect, heads: Heads) {
+    let (given, plan) = Proposal::new(train, &message(heads), ROOM).convert(read as u8);
     g.case((given, wrong_part(&plan, heads)), (0, None));
 }
 
@@ -54,20 +58,21 @@ fn answered(window: AcknowledgmentWindow, s: usize, closes: bool) -> bool {
     closes || (s + 1).is_multiple_of(period)
 }
 
-/// The segments of a train that asks for a window, and whose Begin states a length or none.
-fn deliver(g: &mut Group, heads: Heads, asked: AcknowledgmentWindow, stated: Option<u16>) {
+/// The segments of a train that asks for a window.
+fn deliver(g: &mut Group, heads: Heads, asked: AcknowledgmentWindow) {
     let last = heads.len() - 1;
     let octets = |s: usize| heads[s].1 as usize;
     let services = window(asked).filter(|_| asked != Prohibited);
     let mut first = begin(services, octets(0), AT);
-    first.stated = stated;
+    first.stated = stated(heads[0].0);
     let maximum = heads.iter().map(|(_, octets)| octets).sum();
     let mut rows = vec![Row::Start(1, maximum), first.holds()];
     let mut marks = [1, 0, 0, 0];
     for s in [last].into_iter().chain(1..last) {
         marks[s / 64] |= 1 << (s % 64);
         let call = if s == last { end } else { later };
-        let call = call(s as u8, octets(s), AT);
+        let mut call = call(s as u8, octets(s), AT);
+        call.stated = stated(heads[s].0);
         let whole = rows.len() == heads.len();
         let answers = answered(asked, s, whole || s == last);
         let entries = if answers { heads.len() as u16 } else { 0 };
@@ -81,13 +86,33 @@ fn deliver(g: &mut Group, heads: Heads, asked: AcknowledgmentWindow, stated: Opt
     run(g, &[&rows]);
 }
 
+/// A train that was converted into either dialect.
+fn converted_train(g: &mut Group, cutting: dialects::Cutting) {
+    for (read, written) in BOTH {
+        let [train, heads] = [read, written].map(|d| cutting.heads(TRANSACTION, d));
+        converted(g, &train, read, &heads);
+        deliver(g, &heads, cutting.window);
+    }
+}
+
+/// Each of them, and short ones under every window.
+fn converted_trains(g: &mut Group) {
+    for cutting in dialects::ALL {
+        converted_train(g, cutting);
+    }
+    for window in WINDOWS {
+        for cutting in [EMPTY, TWO, THREE] {
+            converted_train(g, cutting.under(window));
+        }
+    }
+}
+
 pub fn corners(tally: &mut Tally) {
     tally.group("receiver: even trains, the End behind the Begin", |g| {
         for even in all() {
             let heads = even.heads(TRANSACTION);
             planned(g, even, &heads);
-            let stated = even.states_length.then_some(even.octets as u16);
-            deliver(g, &heads, even.window, stated);
+            deliver(g, &heads, even.window);
         }
     });
     let title = "receiver: frozen trains under Exceptions, the End behind the Begin";
@@ -95,7 +120,9 @@ pub fn corners(tally: &mut Tally) {
         for cutting in exceptions::ALL {
             let heads = cutting.heads(TRANSACTION);
             frozen(g, cutting, &heads);
-            deliver(g, &heads, Exceptions, cutting.stated());
+            deliver(g, &heads, Exceptions);
         }
     });
+    let title = "receiver: converted trains, the End behind the Begin";
+    tally.group(title, converted_trains);
 }

@@ -3,6 +3,7 @@
 pub mod bench;
 mod closing;
 mod deadline;
+mod dialects;
 mod even;
 mod exceptions;
 mod impossible;
@@ -27,6 +28,7 @@ pub fn corners(tally: &mut Tally) {
     plans::corners(tally);
     even::corners(tally);
     exceptions::corners(tally);
+    dialects::corners(tally);
     submitting::corners(tally);
     lower_layer::corners(tally);
     deadline::corners(tally);

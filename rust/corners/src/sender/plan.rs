@@ -1,11 +1,13 @@
-//! Plans in octets (PLAN), as the planners and the frozen check give them and with fields changed.
+//! Plans in octets (PLAN), as the planners, the frozen check and the converter give them and with fields changed.
 
 use super::bench::{BUDGET, MESSAGE, TRANSACTION, VERSION};
 use super::record::Octets;
 use crate::exceptions::THREE;
 use crate::octets::{Segment, head, train};
-use crate::plan::{Heads, Planner, heads_octets};
+use crate::plan::proposal::Proposal;
+use crate::plan::{Heads, Planner};
 use catkhize::AcknowledgmentWindow::{self, Every4, Exceptions};
+use catkhize::Dialect;
 use catkhize::{calls, layout};
 
 /// Offsets of what a planner gives.
@@ -60,14 +62,15 @@ pub fn even_at(message: &[u8], budget: u64, window: AcknowledgmentWindow) -> Pla
 
 /// What the frozen check gives for these segments of a message.
 pub fn frozen_of(heads: Heads, message: &[u8], budget: u64) -> Plan {
-    let count = heads.len() as u64;
-    let mut heads = heads_octets(heads);
-    heads.resize(layout::HEADS, 0);
     let mut plan = Plan::UNWRITTEN;
-    let record = &mut plan.0;
-    calls::try_from_frozen(
-        &heads, count, message, message, budget, VERSION, budget, record,
-    );
+    Proposal::new(heads, message, budget).freeze_into(&mut plan.0);
+    plan
+}
+
+/// What the converter gives for these segments of a message, read as a dialect.
+pub fn converted_of(heads: Heads, message: &[u8], budget: u64, read: Dialect) -> Plan {
+    let mut plan = Plan::UNWRITTEN;
+    Proposal::new(heads, message, budget).convert_into(read as u8, &mut plan.0);
     plan
 }
 

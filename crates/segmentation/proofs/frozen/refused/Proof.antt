@@ -1,21 +1,17 @@
--- `frozen::refused` meets its contract: 256 empty heads are those that a plan of no segments keeps. Assumes nothing.
-use mathlib.Core.Path.{_≡_, ap}
-use mathlib.Core.List.{List}
-use mathlib.Core.Option.{some}
-use Rattle.tsar.specs.declared.AcknowledgmentWindow.the-variants.{Prohibited}
-use Rattle.tsar.specs.declared.SegmentHead.{SegmentHead}
-use Rattle.segmentation.specs.Numbers.{planningNumber}
-use Rattle.segmentation.specs.Heads.{none-kept}
+-- `frozen::refused` meets its contract: the plan beside the refusal is the one of no segments. Assumes nothing.
 use borrow.Author.Needs.{needs}
+use mathlib.Core.Path.{ap}
+use mathlib.Core.Option.{some}
+use Rattle.segmentation.specs.declared.FrozenMessage.{FrozenMessage}
+use Rattle.segmentation.specs.Numbers.{planningNumber}
 use Rattle.segmentation.proofs.frozen.refused.Statement.{statement}
 use Rattle.segmentation.proofs.frozen.refused.Tie as tie
 
-no-head-requires : tie.Need-no-head-requires
-no-head-requires c κs = search needs
+no-plan-requires : tie.Need-no-plan-requires
+no-plan-requires c κs = search needs
 
 returns : tie.Need-returns
-returns c =
-    ap (λ (h : List SegmentHead). record { refused = some (planningNumber (c .before .args .error)); plan = record { heads = h; count = 0; «message_octets» = 0; «payload_budget_octets» = 0; «acknowledgment_window» = Prohibited } }) (none-kept (c .no-head .result) (c .no-head .ensures))
+returns c = ap (λ (p : FrozenMessage). record { refused = some (planningNumber (c .before .args .error)); plan = p }) (c .no-plan .ensures)
 
 pub refused-spec : {M : Type 1} → statement M
-refused-spec = tie.close (tie.spec no-head-requires returns)
+refused-spec = tie.close (tie.spec no-plan-requires returns)

@@ -1,0 +1,9 @@
+pub mod Converted
+pub mod Back
+pub mod Pattern
+pub mod Dialects
+pub mod Theorems
+pub mod Refusals
+pub mod Answers
+pub mod Calls
+pub mod Examples
