@@ -23,7 +23,7 @@
  * what the machine became. A train keeps what its segments before the refused one did.
  *
  * 'Document 01' is docs/01-scope.md with what docs/02-change-requests.md adds to it: 25 is of request
- * 2026-09, 26 of 2026-06. n/m is its refusal n with field m.
+ * 2026-09, 26 of 2026-06, 28 of 2026-10. n/m is its refusal n with field m.
  */
 #ifndef CATKHIZE_H
 #define CATKHIZE_H
@@ -64,7 +64,7 @@ extern "C" {
 #define CATKHIZE_REFUSED_FIELD_SUPPORT_STATUS CATKHIZE_REFUSAL(6, 7)
 #define CATKHIZE_REFUSED_RESERVED CATKHIZE_REFUSAL(7, 0)
 #define CATKHIZE_REFUSED_DUPLICATE_PARAMETER CATKHIZE_REFUSAL(8, 0)
-/* The planners', the frozen check's and the converter's. */
+/* The planners', the frozen check's, the converter's and the delivery orders'. */
 #define CATKHIZE_REFUSED_PAYLOAD_BUDGET CATKHIZE_REFUSAL(20, 0)
 #define CATKHIZE_REFUSED_HEADER_CAPACITY CATKHIZE_REFUSAL(21, 0)
 #define CATKHIZE_REFUSED_SEGMENT_COUNT CATKHIZE_REFUSAL(22, 0)
@@ -72,6 +72,7 @@ extern "C" {
 #define CATKHIZE_REFUSED_JOINED_LENGTH CATKHIZE_REFUSAL(24, 0)
 #define CATKHIZE_REFUSED_EXCEPTIONS_WINDOW CATKHIZE_REFUSAL(25, 0)
 #define CATKHIZE_REFUSED_OTHER_PATTERN CATKHIZE_REFUSAL(26, 0)
+#define CATKHIZE_REFUSED_ORDER_NUMBER CATKHIZE_REFUSAL(28, 0)
 /* The machines'. */
 #define CATKHIZE_REFUSED_IDENTITY CATKHIZE_REFUSAL(30, 0)
 #define CATKHIZE_REFUSED_SERVICE CATKHIZE_REFUSAL(31, 0)
@@ -515,6 +516,25 @@ uint32_t catkhize_convert(
     uint64_t ceiling,
     uint8_t dialect,
     uint8_t *plan, size_t plan_octets); /* PLAN */
+
+/* ---- Delivery orders ---- */
+
+/* For type tests: writes a delivery order of a train of 2 to 6 segments, the Begin counted. The first octets
+ * of output, one for each segment, become the sequence numbers in the order of delivery: the Begin's 0, then
+ * those of the others. Each is the index that catkhize_plan_segment takes. The octets behind them are as they
+ * were, and 6 octets are enough for every order.
+ *
+ * The orders of a train are in lexicographic order and numbered from 0. Of four segments number 0 is 0 1 2 3,
+ * number 1 is 0 1 3 2 and number 5, the last, is 0 3 2 1. 2, 3, 4, 5 and 6 segments have 1, 2, 6, 24 and 120
+ * orders, each under one number. To go through all of them, count number up from 0 until the call gives 28.
+ *
+ * The refusals, in this order: 28 for segments below 2 or above 6 and for a number at or past the count of
+ * orders; 61 for an output of fewer octets than segments. This call gives neither 256, 257 nor 258. After a
+ * refusal output is as it was. */
+uint32_t catkhize_delivery_order(
+    uint8_t segments,
+    uint64_t number,
+    uint8_t *output, size_t output_octets);
 
 /* ---- Receiver ----
  *

@@ -88,6 +88,7 @@ static void test_numbers(void) {
     CHECK(CATKHIZE_REFUSED_CLOSED == 9728u);
     CHECK(CATKHIZE_REFUSED_EXCEPTIONS_WINDOW == 6400u);
     CHECK(CATKHIZE_REFUSED_OTHER_PATTERN == 6656u);
+    CHECK(CATKHIZE_REFUSED_ORDER_NUMBER == 7168u && CATKHIZE_REFUSED_OUTPUT_TOO_SHORT == 15616u);
     CHECK(CATKHIZE_REFUSAL_N(1539u) == 6u && CATKHIZE_REFUSAL_M(1539u) == 3u);
     CHECK(CATKHIZE_IS_REFUSAL(CATKHIZE_REFUSED_VERSION) && !CATKHIZE_IS_REFUSAL(CATKHIZE_NOTHING));
     CHECK(CATKHIZE_REFUSED_BUFFER_TOO_SHORT == 65536u);
@@ -407,6 +408,92 @@ static void test_convert_refused(void) {
     CHECK(refuses_to_convert(CATKHIZE_REFUSED_PAYLOAD_BUDGET, all, 3, 7, message, 6, 1, CATKHIZE_DIALECT_BEGIN_ONLY, whole));
 }
 
+static uint8_t order[9];
+
+/* How many orders 2 to 6 segments have. */
+static const uint64_t order_counts[5] = {1, 2, 6, 24, 120};
+
+/* Writes an order to so many octets of a filled buffer. */
+static uint32_t deliver(uint8_t segments, uint64_t number, size_t octets) {
+    fill(order, sizeof order);
+    return catkhize_delivery_order(segments, number, order, octets);
+}
+
+static void swap(uint8_t *one, uint8_t *other) {
+    const uint8_t octet = *one;
+    *one = *other;
+    *other = octet;
+}
+
+/* Turns an order into the next one in lexicographic order, the Begin staying first; 0 where there is none. */
+static int next_order(uint8_t *of, size_t segments) {
+    size_t from = segments - 1, to = segments - 1, greater = segments - 1;
+    while (from > 1 && of[from - 1] > of[from]) {
+        from--;
+    }
+    if (from == 1) {
+        return 0;
+    }
+    while (of[greater] < of[from - 1]) {
+        greater--;
+    }
+    swap(of + from - 1, of + greater);
+    for (; from < to; from++, to--) {
+        swap(of + from, of + to);
+    }
+    return 1;
+}
+
+/* All orders of 2 to 6 segments, counted up until 28, in an output with octets to spare and in one without. */
+static void test_orders(void) {
+    uint8_t segments;
+    for (segments = 2; segments <= 6; segments++) {
+        uint8_t expected[6] = {0, 1, 2, 3, 4, 5};
+        uint64_t number = 0;
+        int left = 1;
+        while (left && deliver(segments, number, sizeof order) == CATKHIZE_DONE) {
+            CHECK(memcmp(order, expected, segments) == 0 && untouched(order + segments, sizeof order - segments));
+            CHECK(deliver(segments, number, segments) == CATKHIZE_DONE);
+            CHECK(memcmp(order, expected, segments) == 0 && untouched(order + segments, sizeof order - segments));
+            left = next_order(expected, segments);
+            number++;
+        }
+        CHECK(!left && number == order_counts[segments - 2]);
+        CHECK(deliver(segments, number, sizeof order) == CATKHIZE_REFUSED_ORDER_NUMBER && untouched(order, sizeof order));
+    }
+}
+
+/* An order is refused so, and the output is as it was. */
+static int refuses_order(uint32_t refusal, uint8_t segments, uint64_t number, size_t octets) {
+    return deliver(segments, number, octets) == refusal && untouched(order, sizeof order);
+}
+
+/* 28, for an output of any length, and after it 61. */
+static void test_orders_refused(void) {
+    static const uint8_t others[6] = {0, 1, 7, 8, 130, 255};
+    uint8_t segments;
+    size_t i, octets;
+    for (octets = 0; octets <= sizeof order; octets++) {
+        for (i = 0; i < sizeof others; i++) {
+            CHECK(refuses_order(CATKHIZE_REFUSED_ORDER_NUMBER, others[i], 0, octets));
+            CHECK(refuses_order(CATKHIZE_REFUSED_ORDER_NUMBER, others[i], UINT64_MAX, octets));
+        }
+        for (segments = 2; segments <= 6; segments++) {
+            const uint64_t count = order_counts[segments - 2];
+            CHECK(refuses_order(CATKHIZE_REFUSED_ORDER_NUMBER, segments, count, octets));
+            CHECK(refuses_order(CATKHIZE_REFUSED_ORDER_NUMBER, segments, (uint64_t)1 << 8, octets));
+            CHECK(refuses_order(CATKHIZE_REFUSED_ORDER_NUMBER, segments, (uint64_t)1 << 16, octets));
+            CHECK(refuses_order(CATKHIZE_REFUSED_ORDER_NUMBER, segments, (uint64_t)1 << 32, octets));
+            CHECK(refuses_order(CATKHIZE_REFUSED_ORDER_NUMBER, segments, (uint64_t)1 << 63, octets));
+            CHECK(refuses_order(CATKHIZE_REFUSED_ORDER_NUMBER, segments, UINT64_MAX, octets));
+            if (octets < segments) {
+                CHECK(refuses_order(CATKHIZE_REFUSED_OUTPUT_TOO_SHORT, segments, 0, octets));
+                CHECK(refuses_order(CATKHIZE_REFUSED_OUTPUT_TOO_SHORT, segments, count - 1, octets));
+            }
+        }
+    }
+}
+
 #define PEER 0, 34, 5
 #define PROTOCOL CATKHIZE_PROTOCOL_SEGMENTED, 1
 
@@ -604,6 +691,35 @@ static void test_figures(void) {
     begin_of(segment, 2, CATKHIZE_WINDOW_EVERY4);
     segment[CATKHIZE_SEGMENT_AT_COMPRESSION] = CATKHIZE_COMPRESSION_V42BIS;
     CHECK(receive(segment, &other, 1, 0) == CATKHIZE_DONE && says(answer, CATKHIZE_STATUS_COMPRESSION_UNSUPPORTED, 1, 1, 0));
+}
+
+/* A message in six segments of 1, 3, 3, 3, 3 and 3 octets, delivered in order 77 of 120: the last of them hands it over, and no other. */
+static void test_order_received(void) {
+    static const uint8_t sixteen[16] = {0x30, 0x31, 0x32, 0x33, 0x34, 0x35, 0x36, 0x37, 0x38, 0x39, 0x3a, 0x3b, 0x3c, 0x3d, 0x3e, 0x3f};
+    static const uint8_t expected[6] = {0, 4, 1, 5, 3, 2};
+    size_t i;
+    CHECK(catkhize_plan_message(sixteen, 16, 6, 2, CATKHIZE_WINDOW_PROHIBITED, 1, 6, plan, sizeof plan) == CATKHIZE_DONE);
+    CHECK(catkhize_get64(plan + CATKHIZE_PLAN_AT_COUNT) == 6);
+    CHECK(deliver(6, 77, sizeof order) == CATKHIZE_DONE && memcmp(order, expected, 6) == 0);
+    new_receiver(0);
+    for (i = 0; i < 6; i++) {
+        uint8_t part[CATKHIZE_PART_OCTETS], octets[6], decoded[CATKHIZE_DECODED_OCTETS];
+        fill(part, sizeof part);
+        fill(octets, sizeof octets);
+        fill(decoded, sizeof decoded);
+        CHECK(catkhize_plan_segment(plan, sizeof plan, order[i], part, sizeof part) == CATKHIZE_DONE);
+        CHECK(catkhize_encode(part, CATKHIZE_SEGMENT_OCTETS, sixteen + catkhize_get64(part + CATKHIZE_PART_AT_OFFSET),
+                  (size_t)catkhize_get64(part + CATKHIZE_HEAD_AT_DATA_LENGTH), 1, octets, sizeof octets, answer, sizeof answer)
+            == CATKHIZE_DONE);
+        CHECK(catkhize_decode(octets, (size_t)catkhize_get64(answer), 1, decoded, sizeof decoded) == CATKHIZE_DONE);
+        CHECK(memcmp(decoded, part, CATKHIZE_HEAD_OCTETS) == 0);
+        CHECK(untouched(output, sizeof output));
+        CHECK(receive(decoded, octets + 3, (size_t)catkhize_get64(decoded + CATKHIZE_HEAD_AT_DATA_LENGTH), i) == CATKHIZE_DONE);
+        CHECK(zero(answer, CATKHIZE_REPLY_OCTETS) && answer[CATKHIZE_RECEPTION_AT_HANDED_OVER] == (i == 5));
+    }
+    CHECK(catkhize_get64(answer + CATKHIZE_RECEPTION_AT_MESSAGE_OCTETS) == 16);
+    CHECK(memcmp(output, sixteen, 16) == 0 && untouched(output + 16, sizeof output - 16));
+    CHECK(record[CATKHIZE_RECEIVER_AT_STATE] == CATKHIZE_RECEIVER_COMPLETE);
 }
 
 static uint32_t take_train(const uint8_t *octets, size_t octets_octets, const uint8_t *lengths, size_t lengths_octets) {
@@ -950,11 +1066,14 @@ static void run(void) {
     test_convert();
     test_patterns();
     test_convert_refused();
+    test_orders();
+    test_orders_refused();
     test_receiver();
     test_receiver_time();
     test_release_refused();
     test_release();
     test_figures();
+    test_order_received();
     test_train();
     test_train_goes_on();
     test_train_figures();

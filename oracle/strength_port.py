@@ -337,6 +337,65 @@ error('d46 a plan written beside a refusal', IC, 'ConvertAnswer::Refused(e) => c
             convert_code(e)
         }''')
 
+# ---- delivery orders
+N, NE = 'orders/src/lib.rt', 'catkhize/src/plan.rt'
+TEST_COUNT = '''    if factorial(segments - 1) <= number {
+        return OrderAnswer::Refused(OrderError::Number);
+    }
+'''
+TEST_61 = '''    if output.len() < segments {
+        return OrderAnswer::Refused(OrderError::Output);
+    }
+'''
+TEST_FEWEST = '    if segments < MIN_SEGMENTS {\n'
+COUNT_UP = '    count_up(&mut output[0..segments]);\n'
+SHIFT = '''    let mut j = d;
+    while 0 < j {
+        left[j] = left[j - 1];
+        j -= 1;
+    }
+'''
+error('n01 orders numbered by digits from the right', N, '''        let f = factorial(left.len() - i - 1);
+        bring(&mut left[i..], rest / f);
+        rest = rest % f;
+''', '''        let m = left.len() - i;
+        bring(&mut left[i..], rest % m);
+        rest = rest / m;
+''')
+error('n02 119 orders of six segments', N, '24, 120];', '24, 119];')
+error('n03 seven for three factorial', N, '2, 6, 24,', '2, 7, 24,')
+error('n04 a train of one segment', N, 'const MIN_SEGMENTS: usize = 2;', 'const MIN_SEGMENTS: usize = 1;')
+error('n05 two segments refused', N, TEST_FEWEST, '    if segments <= MIN_SEGMENTS {\n')
+error('n06 six segments refused', N, 'if MAX_SEGMENTS < segments {', 'if MAX_SEGMENTS <= segments {')
+error('n07 a train of seven segments', N, 'const MAX_SEGMENTS: usize = 6;', 'const MAX_SEGMENTS: usize = 7;',
+      also=[('const FACTORIALS: [usize; 6] = [1, 1, 2, 6, 24, 120];', 'const FACTORIALS: [usize; 7] = [1, 1, 2, 6, 24, 120, 720];')])
+error('n08 the count of orders taken for a number', N, 'if factorial(segments - 1) <= number {', 'if factorial(segments - 1) < number {')
+error('n09 61 before 28', N, TEST_61, '', also=[(TEST_FEWEST, TEST_61 + TEST_FEWEST)])
+error('n10 61 before 28 for the number', N, TEST_61, '', also=[(TEST_COUNT, TEST_61 + TEST_COUNT)])
+error('n11 61 where the output is exactly full', N, 'if output.len() < segments {', 'if output.len() <= segments {')
+error('n12 an output of one octet less taken', N, 'if output.len() < segments {', 'if output.len() + 1 < segments {')
+error('n13 28 and 61 exchanged', IC, '''        OrderError::Number => 256 * 28,
+        OrderError::Output => OUTPUT_TOO_SHORT,''', '''        OrderError::Number => OUTPUT_TOO_SHORT,
+        OrderError::Output => 256 * 28,''')
+error('n14 28 spelled 26', IC, '256 * 28', '256 * 26')
+error('n15 61 that writes', N, TEST_61, '''    if output.len() < segments {
+        count_up(output);
+        return OrderAnswer::Refused(OrderError::Output);
+    }
+''')
+error('n16 28 that writes', N, COUNT_UP, '', also=[(TEST_COUNT, '''    if segments <= output.len() {
+        count_up(&mut output[0..segments]);
+    }
+''' + TEST_COUNT)])
+error('n17 octets behind the order written', N, COUNT_UP, '    count_up(output);\n')
+error('n18 a number cut to 32 bits', IC, 'write_order(segments as usize, number as usize, output)', 'write_order(segments as usize, number as u32 as usize, output)')
+error('n19 a number cut to 63 bits', NE, 'plan_c::catkhize_delivery_order(segments, number, output)', 'plan_c::catkhize_delivery_order(segments, number % 9_223_372_036_854_775_808, output)')
+error('n20 segments cut to three bits', NE, 'plan_c::catkhize_delivery_order(segments, number, output)', 'plan_c::catkhize_delivery_order(segments % 8, number, output)')
+error('n21 the Begin among those that are arranged', N, 'arrange(&mut output[1..segments], number);', 'arrange(&mut output[0..segments - 1], number);')
+error('n22 the last two places not arranged', N, 'while i < left.len() {', 'while i + 2 < left.len() {')
+error('n23 a swap where those before go one place on', N, SHIFT, '    left[d] = left[0];\n')
+error('n24 the last order first', N, 'arrange(&mut output[1..segments], number);', 'arrange(&mut output[1..segments], factorial(segments - 1) - 1 - number);')
+
 # ---- words, peers, responses
 W, L, Q, O = 'words/src/lib.rt', 'link/src/lib.rt', 'response/src/lib.rt', 'octets/src/lib.rt'
 error('w01 marks from 192 on as from 191', W, 'd: front_in(n, 192),', 'd: front_in(n, 191),')
@@ -736,7 +795,7 @@ def apply(crates, file, changes):
 
 
 # By the first letter of an error's name: the areas that the driver runs (tools/differ).
-AREAS = {'c': 'c', 'p': 'p', 'f': 'p', 'd': 'p', 'r': 'r', 's': 's', 't': 't'}
+AREAS = {'c': 'c', 'p': 'p', 'f': 'p', 'd': 'p', 'n': 'p', 'r': 'r', 's': 's', 't': 't'}
 
 
 def run(root, library, areas, rounds):

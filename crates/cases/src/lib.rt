@@ -1,1 +1,1 @@
-// No code: specs/Cases.antt is the one statement over the proved cases of document 01.
+// No code: specs/ has document 01's proved cases, and laws of converted trains and of trains in every order.

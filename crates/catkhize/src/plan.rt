@@ -1,6 +1,6 @@
-// Plans, frozen plans and their dialects.
+// Plans, frozen plans and their dialects, and delivery orders.
 ghost use mathlib.Core.Path.{_≡_};
-ghost use Rattle.plan_c.specs.Calls.{planCall, planMessageCall, planEvenCall, partCall, planSegmentCall, tryFromFrozenCall, convertCall};
+ghost use Rattle.plan_c.specs.Calls.{planCall, planMessageCall, planEvenCall, partCall, planSegmentCall, tryFromFrozenCall, convertCall, orderCall, deliveryOrderCall};
 
 // Plans the segments of a message. The plan is put into plan.
 #[no_mangle]
@@ -94,4 +94,12 @@ pub extern "C" fn catkhize_convert(
         dialect,
         plan,
     )
+}
+
+// Writes the sequence numbers of a train of 2 to 6 segments in the delivery order with a number.
+#[no_mangle]
+pub extern "C" fn catkhize_delivery_order(segments: u8, number: u64, output: &mut [u8]) -> u32
+    ensures { λ r. ⌜ orderCall r (now (output .exit)) ≡ deliveryOrderCall segments number (now (output .entry)) ⌝ }
+{
+    plan_c::catkhize_delivery_order(segments, number, output)
 }

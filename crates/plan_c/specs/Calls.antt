@@ -1,5 +1,6 @@
--- What catkhize_plan_message, catkhize_plan_even, catkhize_plan_segment, catkhize_try_from_frozen and catkhize_convert give and leave in each lent
--- buffer: the exports' own tests, then the definitions of the planners, of the frozen check and of the converter. A plan comes out as a sender's plan.
+-- What catkhize_plan_message, catkhize_plan_even, catkhize_plan_segment, catkhize_try_from_frozen, catkhize_convert and catkhize_delivery_order give
+-- and leave in each lent buffer: the exports' own tests, then the definitions of the planners, of the frozen check, of the converter and of the
+-- delivery orders. A plan comes out as a sender's plan.
 use mathlib.Core.Bool.{Bool, not, cond}
 use mathlib.Core.List.{List, [], _∷_, _++_}
 use mathlib.Core.Option.{Option, none, some}
@@ -17,6 +18,7 @@ use Rattle.segmentation.specs.declared.PlannedSegment.the-variants.{NoSegment, 
 use Rattle.dialect.specs.declared.Dialect.{Dialect}
 use Rattle.dialect.specs.declared.Dialect.the-variants.{BeginOnly, Every}
 use Rattle.dialect.specs.Convert.{convertOf}
+use Rattle.orders.specs.Orders.{Ordered, writeOrderOf}
 use Rattle.sender.specs.TryNew.{planSegment}
 use Rattle.sender.specs.declared.Plan.{Plan}
 use Rattle.sender.specs.declared.PlanForm.the-variants.{Planned, Frozen}
@@ -147,3 +149,24 @@ unfoldable pub convertCall : List ℕ → ℕ → List ℕ → List ℕ → ℕ 
 convertCall heads count joined message budget version ceiling dialect plan =
     unlessRefused (refusal (convertTests heads dialect plan)) (λ n. planCall n plan)
     (checkGives (convertOf (dialectOf dialect) (proposal heads count joined message budget version ceiling)) plan)
+
+-- ---- catkhize_delivery_order
+
+-- the number that the call gives, and the output's octets after it
+pub record OrderCall : Type 0 where
+  pub code : ℕ
+  pub output : List ℕ
+
+abbrev pub orderCall : ℕ → List ℕ → OrderCall
+orderCall n output = record { code = n; output = output }
+
+abbrev pub orderCode : Option Refusal → ℕ
+orderCode none = 0
+orderCode (some r) = codeOf r
+
+-- what write_order answers, as a call; it has no test of the exports' own, for 61 says that the output is short
+abbrev pub orderGives : Ordered → OrderCall
+orderGives o = orderCall (orderCode (o .refused)) (o .output)
+
+abbrev pub deliveryOrderCall : ℕ → ℕ → List ℕ → OrderCall
+deliveryOrderCall segments number output = orderGives (writeOrderOf segments number output)

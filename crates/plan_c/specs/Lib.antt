@@ -1,3 +1,3 @@
--- The exported planners, frozen check and converter: what each call gives and leaves (Calls), and the laws of it (Laws).
+-- The exported planners, frozen check, converter and delivery orders: what each call gives and leaves (Calls), and the laws of it (Laws).
 pub mod Calls
 pub mod Laws

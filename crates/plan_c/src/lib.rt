@@ -1,8 +1,9 @@
-// The exported planners, frozen check and converter, on numbers and octet slices. A plan comes out as a sender's plan (PLAN).
+// The exported planners, frozen check, converter and delivery orders, on numbers and octet slices. A plan comes out as a sender's plan (PLAN).
 use codec_c::PART_OCTETS;
 use codec_c::codes::DONE;
 use codec_c::codes::MISSPELLED;
 use codec_c::codes::NOTHING;
+use codec_c::codes::OUTPUT_TOO_SHORT;
 use codec_c::codes::SHORT;
 use codec_c::codes::UNNAMED;
 use codec_c::codes::error_code;
@@ -13,6 +14,9 @@ use dialect::ConvertError;
 use dialect::Dialect;
 use dialect::convert;
 use image::cases::window_of;
+use orders::OrderAnswer;
+use orders::OrderError;
+use orders::write_order;
 use plan_image::PLAN_OCTETS;
 use plan_image::get_heads;
 use plan_image::get_plan;
@@ -35,8 +39,9 @@ ghost use Rattle.segmentation.specs.Plan.{plannedBy};
 ghost use Rattle.segmentation.specs.Frozen.{checkedBy};
 ghost use Rattle.dialect.specs.Numbers.{convertNumber};
 ghost use Rattle.dialect.specs.Convert.{convertedBy};
+ghost use Rattle.orders.specs.Numbers.{orderNumber};
 ghost use Rattle.codec_c.specs.Codes.{codeOf};
-ghost use Rattle.plan_c.specs.Calls.{planCall, planWritten, frozenPlan, planningGives, planningCall, planMessageCall, planEvenCall, partCall, segmentGives, planSegmentCall, checkGives, tryFromFrozenCall, dialectOf, convertCall};
+ghost use Rattle.plan_c.specs.Calls.{planCall, planWritten, frozenPlan, planningGives, planningCall, planMessageCall, planEvenCall, partCall, segmentGives, planSegmentCall, checkGives, tryFromFrozenCall, dialectOf, convertCall, orderCall, deliveryOrderCall};
 
 // The last window's number.
 const LAST_WINDOW: u8 = 5;
@@ -297,4 +302,24 @@ pub fn catkhize_convert(
         dialect_of(dialect),
     );
     put_converted(conversion, plan)
+}
+
+// What a call gives that refuses an order.
+fn order_code(e: OrderError) -> u32
+    ensures { λ r. ⌜ r ≡ codeOf (orderNumber e) ⌝ }
+{
+    match e {
+        OrderError::Number => 256 * 28,
+        OrderError::Output => OUTPUT_TOO_SHORT,
+    }
+}
+
+// Writes the sequence numbers of a train of 2 to 6 segments in the delivery order with a number.
+pub fn catkhize_delivery_order(segments: u8, number: u64, output: &mut [u8]) -> u32
+    ensures { λ r. ⌜ orderCall r (now (output .exit)) ≡ deliveryOrderCall segments number (now (output .entry)) ⌝ }
+{
+    match write_order(segments as usize, number as usize, output) {
+        OrderAnswer::Written => DONE,
+        OrderAnswer::Refused(e) => order_code(e),
+    }
 }

@@ -35,10 +35,11 @@ fn refusal_name(n: u32) -> usize {
     match n {
         1..=8 => say::REFUSALS + (n - 1) as usize,
         20..=26 => say::REFUSALS + 8 + (n - 20) as usize,
-        30..=38 => say::REFUSALS + 15 + (n - 30) as usize,
-        40..=49 => say::REFUSALS + 24 + (n - 40) as usize,
-        60..=63 => say::REFUSALS + 34 + (n - 60) as usize,
-        256..=258 => say::REFUSALS + 38 + (n - 256) as usize,
+        28 => say::REFUSALS + 15,
+        30..=38 => say::REFUSALS + 16 + (n - 30) as usize,
+        40..=49 => say::REFUSALS + 25 + (n - 40) as usize,
+        60..=63 => say::REFUSALS + 35 + (n - 60) as usize,
+        256..=258 => say::REFUSALS + 39 + (n - 256) as usize,
         _ => say::NOTHING,
     }
 }

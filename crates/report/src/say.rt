@@ -262,10 +262,10 @@ pub fn say(n: usize, a: u64, b: u64) {
             TransactionId SegmentDataLength BeginSequenceNumber MessageLength Crc24 AcknowledgmentMapLength \
             OptionalServicesSupportStatus \
             Version Truncated Protocol MessageType UnsupportedResponse Field Reserved DuplicateParameter PayloadBudget \
-            HeaderCapacity SegmentCount FrozenPlan JoinedLength ExceptionsWindow OtherPattern Identity Service TransactionId \
-            ClockRegression TimeOverflow UnparsedSegment BeginRequired TimerDue Closed Plan CounterOverflow StaleSubmission \
-            NotSubmitted ReceiptTime Peer ResponsesProhibited UnparsedResponse UnsubmittedAcknowledgment ContradictoryReceipt Store \
-            Output ImpossibleState Tickets BufferTooShort BufferSpellsNone NumberNamesNone",
+            HeaderCapacity SegmentCount FrozenPlan JoinedLength ExceptionsWindow OtherPattern OrderNumber Identity Service \
+            TransactionId ClockRegression TimeOverflow UnparsedSegment BeginRequired TimerDue Closed Plan CounterOverflow \
+            StaleSubmission NotSubmitted ReceiptTime Peer ResponsesProhibited UnparsedResponse UnsubmittedAcknowledgment \
+            ContradictoryReceipt Store Output ImpossibleState Tickets BufferTooShort BufferSpellsNone NumberNamesNone",
             n,
         ),
         a,

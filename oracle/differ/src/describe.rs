@@ -3,6 +3,8 @@
 use crate::dialects;
 use crate::even;
 use crate::exceptions;
+use crate::orders::deliveries::{DELIVER, Deliveries};
+use crate::orders::{MOST, ORDER};
 use crate::receiver::{RELEASE, TRAIN};
 use crate::watch::{Case, FIRST_PROBE};
 use record::fields::{take_head, take_peer, take_protocol};
@@ -37,6 +39,18 @@ fn frozen(frozen: &Frozen) -> String {
         frozen.joined_octets,
         frozen.joined_seed,
         heads.collect::<Vec<_>>().join("; ")
+    )
+}
+
+fn receiver(opening: &Receiving) -> String {
+    format!(
+        "receiver try_new: {:?}, {:?}, transaction {}, version {}, maximum {}, reading {}",
+        opening.peer,
+        opening.protocol,
+        opening.transaction,
+        opening.version,
+        opening.maximum,
+        opening.reading
     )
 }
 
@@ -82,16 +96,23 @@ pub fn describe(case: &Case) -> String {
             check.take_heads(&mut take);
             format!("try_from_frozen and convert: {}", frozen(&check))
         }
-        0x20 => {
-            let opening = Receiving::take(&mut take);
+        ORDER => format!(
+            "delivery_order: {} segments, number {}, output {:02x?}",
+            take.take8(),
+            take.take64(),
+            take.rest()
+        ),
+        0x20 => receiver(&Receiving::take(&mut take)),
+        DELIVER => {
+            let deliveries = Deliveries::take(&case.input);
+            let places = 0..deliveries.train.count.min(MOST.into());
+            let repeat = |place| Some(format!("{} behind {place}", deliveries.repeat(place)?));
+            let repeats: Vec<String> = places.filter_map(repeat).collect();
             format!(
-                "receiver try_new: {:?}, {:?}, transaction {}, version {}, maximum {}, reading {}",
-                opening.peer,
-                opening.protocol,
-                opening.transaction,
-                opening.version,
-                opening.maximum,
-                opening.reading
+                "delivered in order {}: {}; {}; deliveries repeated: {repeats:?}",
+                deliveries.number,
+                frozen(&deliveries.train),
+                receiver(&deliveries.opening),
             )
         }
         0x21 => {

@@ -1,5 +1,6 @@
 //! Plans under Exceptions, by document 02 (2026-09): the planners refuse them with 25, which the original has not; frozen ones go on.
 
+use crate::plans::wanted;
 use crate::spell;
 use bts136::l3::tsar::MessagePlan;
 use record::fields::EXCEPTIONS;
@@ -20,19 +21,10 @@ pub fn planned(wanted: &Wanted) -> Result<MessagePlan, Refusal> {
 /// the message is odd, and the original's planner gives the same segments. try_new does not take it, but a sender that has it goes on.
 pub fn kept(frozen: &Frozen) -> Option<Vec<u8>> {
     let plan = frozen.check().ok()?;
-    let window = plan.acknowledgment_window() as u8;
-    if window != EXCEPTIONS || frozen.message_seed.is_multiple_of(2) {
+    let wanted = wanted(frozen, &plan);
+    if wanted.window != EXCEPTIONS || frozen.message_seed.is_multiple_of(2) {
         return None;
     }
-    let wanted = Wanted {
-        message_octets: frozen.message_octets,
-        seed: frozen.message_seed,
-        budget: frozen.budget,
-        ceiling: frozen.ceiling,
-        transaction: plan.segments()[0].transaction_id,
-        window,
-        version: frozen.version,
-    };
     let planned = wanted.segmented()?;
     (planned == plan).then(|| spell::planned(&planned))
 }

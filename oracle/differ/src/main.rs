@@ -2,8 +2,8 @@
 //!
 //! differ [--seed S] [--rounds N] [--threads T] [--shrink 0] [--areas LETTERS]
 //!
-//! LETTERS are some of c (codec), p (planners, frozen check and converter), r (receiver), t (trains), s (sender); all of them if none is
-//! given.
+//! LETTERS are some of c (codec), p (planners, frozen check, converter and delivery orders), r (receiver), t (trains), s (sender); all of
+//! them if none is given.
 //!
 //! It runs through what can be run through whole, then N rounds of random and systematic inputs, prints what it ran, and ends with status
 //! 1 where the two disagree (after the smallest input found), or where a refusal, a state or an input that a run has to have was not seen.
@@ -15,6 +15,7 @@ mod dialects;
 mod even;
 mod exceptions;
 mod made_up;
+mod orders;
 mod plans;
 mod receiver;
 mod sender;
@@ -26,6 +27,7 @@ mod trains;
 mod watch;
 
 use codec::{CodecChecker, Found};
+use orders::OrderChecker;
 use plans::PlanChecker;
 use receiver::{Receivers, TrainChecker};
 use record::{make, tokens};
@@ -51,6 +53,8 @@ const CODEC_PARTS: u64 = 4;
 const TRAINS: usize = 2_000;
 /// Random trains for the converter of a round, beside the systematic ones.
 const DIALECT_TRAINS: usize = 1_500;
+/// Random calls of delivery_order of a round, beside the systematic ones.
+const ORDER_CALLS: usize = 4_000;
 
 /// A part of a run, done by one thread.
 #[derive(Clone, Copy)]
@@ -60,6 +64,8 @@ enum Item {
     Train(u64),
     Plans(u64),
     Dialects(u64),
+    Orders(u64),
+    Deliveries(u64),
     Codec(u64),
     CodecRandom(u64),
     Exhaustive(u8),
@@ -71,10 +77,10 @@ impl Item {
     /// The letter of the area that it belongs to.
     fn area(self) -> char {
         match self {
-            Item::Receiver(_) => 'r',
+            Item::Receiver(_) | Item::Deliveries(_) => 'r',
             Item::Sender(_) => 's',
             Item::Train(_) => 't',
-            Item::Plans(_) | Item::Dialects(_) | Item::PlanBuffers(_) => 'p',
+            Item::Plans(_) | Item::Dialects(_) | Item::Orders(_) | Item::PlanBuffers(_) => 'p',
             _ => 'c',
         }
     }
@@ -133,9 +139,11 @@ fn items(arguments: &Arguments) -> Vec<Item> {
         items.extend([
             Item::Plans(seed(3)),
             Item::Dialects(seed(11)),
+            Item::Orders(seed(12)),
             Item::CodecBuffers(seed(5)),
             Item::PlanBuffers(seed(10)),
             Item::Receiver(seed(1)),
+            Item::Deliveries(seed(13)),
             Item::Sender(seed(0)),
             Item::Train(seed(2)),
         ]);
@@ -170,6 +178,10 @@ fn run(item: Item, sheet: &Shared) {
         Item::Dialects(seed) => watch::<PlanChecker>(sheet, seed, |record| {
             dialects::trains::make(record, DIALECT_TRAINS)
         }),
+        Item::Orders(seed) => {
+            watch::<OrderChecker>(sheet, seed, |record| orders::make(record, ORDER_CALLS))
+        }
+        Item::Deliveries(seed) => watch::<OrderChecker>(sheet, seed, orders::deliveries::make),
         Item::Codec(seed) => watch::<CodecChecker>(sheet, seed, make::codec::make),
         Item::CodecRandom(seed) => {
             let result = {
@@ -236,6 +248,7 @@ fn shrink(disagreement: Disagreement) -> Disagreement {
         "sender" => shrink::shrink::<Senders>(disagreement),
         "train" => shrink::shrink::<TrainChecker>(disagreement),
         "plans" => shrink::shrink::<PlanChecker>(disagreement),
+        "orders" => shrink::shrink::<OrderChecker>(disagreement),
         "codec" => shrink::shrink::<CodecChecker>(disagreement),
         _ => disagreement,
     }

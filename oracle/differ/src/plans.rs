@@ -216,6 +216,19 @@ fn part(
     }
 }
 
+/// What a planner is to be asked for to give the plan of a frozen train, if one does.
+pub fn wanted(frozen: &Frozen, plan: &SegmentedMessage) -> Wanted {
+    Wanted {
+        message_octets: frozen.message_octets,
+        seed: frozen.message_seed,
+        budget: frozen.budget,
+        ceiling: frozen.ceiling,
+        transaction: plan.segments()[0].transaction_id,
+        window: plan.acknowledgment_window() as u8,
+        version: frozen.version,
+    }
+}
+
 /// The heads of a frozen plan as the port takes them: 256, those past the count not empty.
 pub fn head_octets(frozen: &Frozen) -> Vec<u8> {
     let mut octets = Vec::with_capacity(layout::HEADS);

@@ -18,7 +18,7 @@ use bts136::l3::tsar::{AcknowledgmentWindow, decode_segment};
 use bts136::link::tsar::{Receiver, Reception};
 use catkhize::{calls, layout};
 use record::fields::{take_peer, take_protocol};
-use record::list::Player;
+use record::list::{DONE, Player};
 use record::octets::{Put, Take};
 use record::play::receiver::{ADVANCE, CANCEL, Delivery, OPEN, Opening, RECEIVE, Receiving};
 use record::random::Random;
@@ -184,6 +184,16 @@ fn answered(op: u8, answer: &[u8]) -> Vec<u8> {
         out.put64(take.take32() as u64);
     }
     out
+}
+
+/// Whether a RECEPTION has a message; one that was refused is empty.
+fn has_message(reception: &[u8]) -> bool {
+    reception.get(layout::reception::MESSAGE) == Some(&1)
+}
+
+/// Whether what the recorder wrote of a reception hands a message over.
+pub fn hands_over(recorded: &[u8]) -> bool {
+    recorded[0] == DONE && has_message(&answered(RECEIVE, recorded))
 }
 
 fn reception(out: &mut Vec<u8>, reception: Option<&Reception>) {
@@ -423,7 +433,7 @@ impl Port {
         };
         if let Some(message) = message {
             self.hand_over(message, original, area);
-        } else if case.op == RECEIVE && expected.get(layout::REPLY) == Some(&1) {
+        } else if case.op == RECEIVE && has_message(&expected) {
             self.hand_over(&held_message(original), original, area);
         }
         let reply = if case.op == TRAIN {
@@ -722,7 +732,7 @@ fn reading(case: &Case) -> Option<u64> {
 }
 
 impl Receivers {
-    fn check_in(
+    pub fn check_in(
         &mut self,
         original: Option<&Receiver>,
         message: Option<&[u8]>,

@@ -1,5 +1,7 @@
 //! Makes a list of calls on which the two sides disagree smaller: fewer calls, shorter data, lower numbers.
 
+use crate::orders::ORDER;
+use crate::orders::deliveries::DELIVER;
 use crate::receiver::{RELEASE, TRAIN};
 use crate::watch::{Case, Checker, Disagreement, FIRST_PROBE, replay};
 use std::panic;
@@ -54,7 +56,11 @@ const FROZEN: [Field; 10] = [
     Number(4),
     Number(1),
 ];
+const OPENING: [Field; 4] = [Number(1), Number(1), Number(8), Number(8)];
 const HEAD_AND_LENGTH: usize = 17;
+/// Where a train that is delivered has the input of try_new, and its heads.
+const DELIVER_OPENING: usize = 38;
+const DELIVER_HEADS: usize = 68;
 
 /// The fields of an op's input, as RECORDED.md lays them out.
 fn fields(op: u8) -> Vec<Field> {
@@ -63,11 +69,8 @@ fn fields(op: u8) -> Vec<Field> {
         0x02 => vec![&[Number(1)], &HEAD, &[Number(2), Number(2)], &[Octets]],
         0x10 => vec![&PLAN],
         0x11 => vec![&FROZEN, &[Records(HEAD_AND_LENGTH)]],
-        0x20 => vec![
-            &PEER,
-            &PROTOCOL,
-            &[Number(1), Number(1), Number(8), Number(8)],
-        ],
+        ORDER => vec![&[Number(1), Number(8)], &[Octets]],
+        0x20 => vec![&PEER, &PROTOCOL, &OPENING],
         0x21 => vec![
             &PEER,
             &PROTOCOL,
@@ -77,6 +80,14 @@ fn fields(op: u8) -> Vec<Field> {
         ],
         0x22 | 0x23 | 0x31 | 0x37 => vec![&[Number(8)]],
         TRAIN => vec![&PEER, &PROTOCOL, &[Number(8), Number(2)], &[Octets]],
+        DELIVER => vec![
+            &FROZEN,
+            &[Number(8), Number(4)],
+            &PEER,
+            &PROTOCOL,
+            &OPENING,
+            &[Records(HEAD_AND_LENGTH)],
+        ],
         0x30 => vec![&PLAN, &PEER, &PROTOCOL, &[Number(1), Number(8)]],
         0x32 => vec![&TOKEN, &[Number(8), Number(8)]],
         0x33 => vec![&TOKEN, &[Number(8)]],
@@ -190,6 +201,10 @@ fn smaller(case: &Case) -> Vec<Case> {
     if case.op == 0x11 {
         found.extend(fewer_heads(case, 26));
         found.extend(shorter_data(case, 26));
+    }
+    if case.op == DELIVER {
+        found.extend(fewer_heads(case, DELIVER_HEADS));
+        found.extend(shorter_data(case, DELIVER_HEADS));
     }
     if case.op == 0x36 {
         found.extend(fewer_heads(case, 47));
@@ -335,6 +350,7 @@ fn less(case: &Case, at: usize, width: usize, by: u64) -> Case {
 fn readings(op: u8) -> Vec<usize> {
     match op {
         0x20 => vec![22],
+        DELIVER => vec![DELIVER_OPENING + 22],
         TRAIN => vec![12],
         0x21 => vec![35],
         0x22 | 0x23 | 0x31 | 0x37 | RELEASE => vec![0],
@@ -365,6 +381,7 @@ fn origin(op: u8) -> (Option<usize>, Option<usize>) {
     match op {
         0x20 | 0x21 | 0x35 => (Some(0), Some(12)),
         TRAIN => (Some(0), None),
+        DELIVER => (Some(DELIVER_OPENING), None),
         0x30 => (Some(16), Some(13)),
         0x36 => (Some(26), None),
         _ => (None, None),

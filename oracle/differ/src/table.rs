@@ -1,6 +1,7 @@
 //! What was run: cases, refusals, states and inputs of each area, with their counts.
 
-use std::collections::BTreeMap;
+use crate::orders;
+use std::collections::{BTreeMap, BTreeSet};
 
 #[derive(Clone, Default)]
 pub struct Area {
@@ -9,6 +10,8 @@ pub struct Area {
     pub states: BTreeMap<[u8; 4], u64>,
     /// Inputs that a run has to have, by name.
     pub inputs: BTreeMap<&'static str, u64>,
+    /// The delivery orders that the port wrote.
+    pub orders: BTreeSet<Vec<u8>>,
 }
 
 impl Area {
@@ -35,6 +38,7 @@ impl Area {
         for (name, more) in &other.inputs {
             *self.inputs.entry(name).or_default() += more;
         }
+        self.orders.extend(other.orders.iter().cloned());
     }
 
     fn refusals(&self) -> impl Iterator<Item = (u32, u64)> {
@@ -71,8 +75,8 @@ fn refusal_name(number: u32) -> String {
 }
 
 /// The refusals that a run has to see, by area. 24, 40, 41, 60 to 63 and 256 to 258 lie outside document 01's domain, as no list of calls on
-/// right buffers gives them; the run reaches them with damaged plans, records and buffers. 25 and 26 are document 02's.
-const REFUSALS: [(&str, &str); 11] = [
+/// right buffers gives them; the run reaches them with damaged plans, records and buffers. 25, 26 and 28 are document 02's.
+const REFUSALS: [(&str, &str); 12] = [
     ("codec", "1 2 3 4 5 6/1 6/2 6/3 6/4 6/5 7 8 61 256 257"),
     ("planner", "1 6/1 20 21 22 25 256 257 258"),
     (EVEN_PLANNER, "1 6/1 20 21 22 25 256 258"),
@@ -85,6 +89,7 @@ const REFUSALS: [(&str, &str); 11] = [
         FROM_EVERY,
         "1 6/1 6/2 6/3 6/4 6/5 20 22 23 24 26 256 257 258",
     ),
+    (DELIVERY_ORDERS, "28 61"),
     (
         "receiver",
         "1 6/1 6/2 6/3 6/4 6/5 30 31 32 33 34 35 36 37 38 60 61 62 256 257 258",
@@ -109,12 +114,17 @@ pub const CONVERTERS: [&str; 2] = [FROM_BEGIN_ONLY, FROM_EVERY];
 const FROM_BEGIN_ONLY: &str = "convert from Begin only";
 const FROM_EVERY: &str = "convert from every segment";
 
+/// The areas of delivery_order, and of receivers that get trains in the orders that it writes.
+pub const DELIVERY_ORDERS: &str = "delivery orders";
+pub const IN_ORDER: &str = "receivers in every order";
+
 /// The letter by which an area is asked for.
 fn letter(area: &str) -> char {
     match area {
         "codec" => 'c',
-        "planner" | EVEN_PLANNER | "frozen check" | FROM_BEGIN_ONLY | FROM_EVERY => 'p',
-        "receiver" | "release" | "receivers released" => 'r',
+        "planner" | EVEN_PLANNER | "frozen check" | FROM_BEGIN_ONLY | FROM_EVERY
+        | DELIVERY_ORDERS => 'p',
+        "receiver" | "release" | "receivers released" | IN_ORDER => 'r',
         "train" => 't',
         _ => 's',
     }
@@ -225,6 +235,28 @@ pub const PATTERN_AND_BUDGET: &str = "26 and 20 by a converted segment both due"
 pub const CHECK_AND_BUDGET: &str =
     "another refusal of the frozen check and 20 by a converted segment both due";
 
+pub const ORDER_FULL: &str = "orders in outputs of their octets";
+pub const ORDER_LONGER: &str = "orders in longer outputs";
+pub const OUTPUT_ONE_LESS: &str = "61 for one octet less";
+pub const NUMBER_AND_OUTPUT: &str = "28 and 61 both due";
+pub const COUNT_OF_ORDERS: &str = "28 for the count of orders";
+pub const CUT_NUMBER: &str = "28 for a number that is an order's in its lower 32 bits";
+pub const ONE_SEGMENT: &str = "28 for one segment";
+pub const SEVEN_SEGMENTS: &str = "28 for seven segments";
+pub const DELIVERED_PLANNED: &str = "trains of plan_message delivered";
+pub const DELIVERED_EVEN: &str = "trains of plan_even delivered";
+pub const DELIVERED_FROZEN: &str = "trains of neither planner delivered";
+pub const REPEATS_BEFORE: &str = "repeats before the message is handed over";
+pub const REPEATS_BEHIND: &str = "repeats behind it";
+pub const DELIVERED_WINDOWS: [&str; 6] = [
+    "trains under Prohibited delivered",
+    "trains under Every4 delivered",
+    "trains under Every8 delivered",
+    "trains under Every16 delivered",
+    "trains under Last delivered",
+    "trains under Exceptions delivered",
+];
+
 /// The last entry of a word and the first of the next: maps whose first missing entry they are.
 pub const WORD_EDGES: [(usize, &str); 6] = [
     (63, "maps with 63 the first missing"),
@@ -289,7 +321,7 @@ fn converter_inputs() -> impl Iterator<Item = (&'static str, &'static str)> {
     inputs.flat_map(|name| CONVERTERS.map(|area| (area, name)))
 }
 
-const INPUTS: [(&str, &str); 56] = [
+const INPUTS: [(&str, &str); 69] = [
     (FROM_BEGIN_ONLY, BUDGET_BY_CONTINUE),
     (FROM_BEGIN_ONLY, BUDGET_BY_END),
     (FROM_BEGIN_ONLY, BUDGET_BY_SEVERAL),
@@ -310,6 +342,19 @@ const INPUTS: [(&str, &str); 56] = [
     (EVEN_PLANNER, EVEN_TWO),
     (EVEN_PLANNER, EVEN_MOST),
     (EVEN_PLANNER, EVEN_LONGER_END),
+    (DELIVERY_ORDERS, ORDER_FULL),
+    (DELIVERY_ORDERS, ORDER_LONGER),
+    (DELIVERY_ORDERS, OUTPUT_ONE_LESS),
+    (DELIVERY_ORDERS, NUMBER_AND_OUTPUT),
+    (DELIVERY_ORDERS, COUNT_OF_ORDERS),
+    (DELIVERY_ORDERS, CUT_NUMBER),
+    (DELIVERY_ORDERS, ONE_SEGMENT),
+    (DELIVERY_ORDERS, SEVEN_SEGMENTS),
+    (IN_ORDER, DELIVERED_PLANNED),
+    (IN_ORDER, DELIVERED_EVEN),
+    (IN_ORDER, DELIVERED_FROZEN),
+    (IN_ORDER, REPEATS_BEFORE),
+    (IN_ORDER, REPEATS_BEHIND),
     ("receiver", FULL_TRAIN),
     ("receiver", LATE_RECEPTION),
     ("receiver", FULL_MAP),
@@ -410,6 +455,9 @@ impl Table {
                     joined(inputs.map(|(name, count)| ((*name).to_owned(), *count)))
                 );
             }
+            if !area.orders.is_empty() {
+                println!("  orders: {} different ones", area.orders.len());
+            }
         }
     }
 
@@ -443,7 +491,17 @@ impl Table {
                 missing.push(format!("sender: state {}", sender_state_name(state)));
             }
         }
-        let inputs = INPUTS.into_iter().chain(converter_inputs());
+        for name in [DELIVERY_ORDERS, IN_ORDER]
+            .into_iter()
+            .filter(|name| runs(name))
+        {
+            let unseen = orders::count() - area(name).orders.len();
+            if unseen > 0 {
+                missing.push(format!("{name}: {unseen} orders"));
+            }
+        }
+        let windows = DELIVERED_WINDOWS.map(|name| (IN_ORDER, name));
+        let inputs = INPUTS.into_iter().chain(windows).chain(converter_inputs());
         for (name, input) in inputs.filter(|(name, _)| runs(name)) {
             if !area(name).inputs.contains_key(input) {
                 missing.push(format!("{name}: {input}"));

@@ -219,6 +219,11 @@ pub fn same(name: &str, found: &[u8], expected: &[u8]) -> Checked {
     }
 }
 
+/// The words of a comparison in which document 02 is the judge.
+pub fn by_document_02(what: String) -> String {
+    what.replace("the original", "document 02")
+}
+
 /// Says how the figures of a map differ from those that the driver has counted.
 pub fn same_figures(found: &[u8], counted: &[u8]) -> Checked {
     if found == counted {

@@ -89,6 +89,12 @@ mod c {
             plan: *mut u8,
             plan_octets: usize,
         ) -> u32;
+        pub fn catkhize_delivery_order(
+            segments: u8,
+            number: u64,
+            output: *mut u8,
+            output_octets: usize,
+        ) -> u32;
         pub fn catkhize_receiver_new(
             record: *mut u8,
             record_octets: usize,
@@ -434,6 +440,16 @@ pub fn convert(
         dialect,
         plan.as_mut_ptr(),
         plan.len(),
+    ))
+}
+
+/// Writes the sequence numbers of a train of 2 to 6 segments to `output`, in the delivery order with a number.
+pub fn delivery_order(segments: u8, number: u64, output: &mut [u8]) -> u32 {
+    call!(catkhize_delivery_order(
+        segments,
+        number,
+        output.as_mut_ptr(),
+        output.len(),
     ))
 }
 

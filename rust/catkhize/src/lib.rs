@@ -1,8 +1,9 @@
-//! The TSAR core of the bench cell: segments, plans, receiver and sender, over the static library of the proved Rattle crates.
+//! The TSAR core of the bench cell: segments, plans, delivery orders, receiver and sender, over the static library of the proved
+//! Rattle crates.
 //!
 //! The core is a port of a Rust program; types that it has too have its names. A call that is refused gives a [`Refusal`] with document
-//! 01's number (docs/01-scope.md; 25 and 26 are docs/02-change-requests.md's). No call panics, whatever it is given. [`calls`] has the entries
-//! as they are, on octets.
+//! 01's number (docs/01-scope.md; 25, 26 and 28 are docs/02-change-requests.md's). No call panics, whatever it is given. [`calls`] has the
+//! entries as they are, on octets.
 //!
 //! # Numbers that several calls take
 //!
@@ -73,6 +74,7 @@ pub mod calls;
 pub mod layout;
 mod link;
 mod octets;
+mod orders;
 mod plan;
 mod receiver;
 mod refusal;
@@ -81,6 +83,7 @@ mod segment;
 mod sender;
 
 pub use link::{HigherLayerProtocol, MobileIdentity};
+pub use orders::{delivery_order, delivery_orders};
 pub use plan::{Dialect, MessagePlan, SegmentedMessage, plan_even, plan_message};
 pub use receiver::{Receiver, ReceiverState, Reception, Reported, Train};
 pub use refusal::{Given, Refusal};

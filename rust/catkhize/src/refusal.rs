@@ -1,8 +1,8 @@
 use std::error::Error;
 use std::fmt;
 
-/// Why a call was refused: document 01's refusal n/m, 25 or 26 of document 02 (requests 2026-09 and 2026-06), or one of the exports' own
-/// (256 to 258).
+/// Why a call was refused: document 01's refusal n/m, 25, 26 or 28 of document 02 (requests 2026-09, 2026-06 and 2026-10), or one of the
+/// exports' own (256 to 258).
 ///
 /// A refused call changes nothing, but in the late cases that [the crate](crate#refused-calls) names.
 ///
@@ -80,6 +80,8 @@ refusals! {
     EXCEPTIONS_WINDOW = 25 / 0, "ExceptionsWindow";
     /// A train that is not in the dialect being read.
     OTHER_PATTERN = 26 / 0, "OtherPattern";
+    /// Not 2 to 6 segments, or no delivery order of that number.
+    ORDER_NUMBER = 28 / 0, "OrderNumber";
     /// No peer, or another than the machine's.
     IDENTITY = 30 / 0, "Identity";
     /// No protocol that is served, or another than the machine's.

@@ -593,6 +593,137 @@ fn converted_exchange() {
     }
 }
 
+/// The next order in lexicographic order, with the Begin first, if there is one.
+fn next_order(order: &[u8]) -> Option<Vec<u8>> {
+    let mut next = order.to_vec();
+    let later = &mut next[1..];
+    let at = later.windows(2).rposition(|pair| pair[0] < pair[1])?;
+    let greater = later.iter().rposition(|number| *number > later[at])?;
+    later.swap(at, greater);
+    later[at + 1..].reverse();
+    Some(next)
+}
+
+/// Every order of a train, each made of the one before it.
+fn all_orders(segments: u8) -> Vec<Vec<u8>> {
+    let first = (0..segments).collect();
+    std::iter::successors(Some(first), |order: &Vec<u8>| next_order(order)).collect()
+}
+
+/// An order by the call, in so many octets of a longer buffer; what the call gives, and the whole buffer.
+fn delivered(segments: u8, number: u64, octets: usize) -> (Given, Vec<u8>) {
+    let mut output = filled(300);
+    let given = calls::delivery_order(segments, number, &mut output[..octets]);
+    (Given::new(given), output)
+}
+
+/// Every order of 2 to 6 segments, by the call in outputs with and without octets to spare, and by the functions.
+#[test]
+fn orders() {
+    for (segments, count) in (2..).zip([1, 2, 6, 24, 120]) {
+        let expected = all_orders(segments);
+        assert_eq!(expected.len(), count);
+        for (number, order) in (0..).zip(&expected) {
+            for octets in [order.len(), order.len() + 1, 300] {
+                let (given, output) = delivered(segments, number, octets);
+                assert_eq!(given, Given::Done);
+                assert!(output.starts_with(order) && untouched(&output[order.len()..]));
+            }
+            assert_eq!(delivery_order(segments, number).as_ref(), Ok(order));
+        }
+        let past = delivery_order(segments, count as u64);
+        assert_eq!(past, Err(Refusal::ORDER_NUMBER));
+        assert_eq!(delivery_orders(segments), Ok(expected));
+    }
+}
+
+/// 28, for an output of any length, and after it 61. Beside each the output is as it was.
+#[test]
+fn orders_refused() {
+    let refused = |segments, number, octets| {
+        let (given, output) = delivered(segments, number, octets);
+        assert!(untouched(&output));
+        given
+    };
+    let none = Refusal::ORDER_NUMBER;
+    for segments in (0..=1).chain(7..=255) {
+        for number in [0, 1, 119, 120, 1 << 32, u64::MAX] {
+            let exactly = usize::from(segments);
+            for octets in [0, exactly.saturating_sub(1), exactly, 300] {
+                assert_eq!(refused(segments, number, octets), Given::Refused(none));
+            }
+            assert_eq!(delivery_order(segments, number), Err(none));
+        }
+        assert_eq!(delivery_orders(segments), Err(none));
+    }
+    for segments in 2..=6 {
+        let count = all_orders(segments).len() as u64;
+        let cut = [8, 16, 32, 63].map(|bits| 1 << bits);
+        for number in [count, count + 1, u64::MAX].into_iter().chain(cut) {
+            for octets in 0..=7 {
+                assert_eq!(refused(segments, number, octets), Given::Refused(none));
+            }
+            assert_eq!(delivery_order(segments, number), Err(none));
+        }
+        for octets in 0..segments.into() {
+            for number in 0..count {
+                let short = Given::Refused(Refusal::OUTPUT_TOO_SHORT);
+                assert_eq!(refused(segments, number, octets), short);
+            }
+        }
+    }
+    assert_eq!(refusal(7168), none);
+    assert_eq!(refusal(7168).to_string(), "refusal 28: OrderNumber");
+    assert_eq!(format!("{:?}", refusal(7168)), "Refusal(28 OrderNumber)");
+    assert_eq!(refusal(15_616), Refusal::OUTPUT_TOO_SHORT);
+    assert!(!none.is_own());
+}
+
+/// A train of six segments in every order: the last segment hands the message over, and no other, nor a repeat after it.
+#[test]
+fn orders_received() {
+    let message = b"0123456789abcdefghijkl";
+    // Of 2, 4, 4, 4, 4 and 4 octets, and of 1, 5, 5, 5, 5 and 1.
+    let budgets = [
+        (AcknowledgmentWindow::Prohibited, 7),
+        (AcknowledgmentWindow::Last, 8),
+    ];
+    for (window, budget) in budgets {
+        let planned = plan_message(message, budget, 2, window, 1, budget);
+        let Ok(MessagePlan::Segmented(plan)) = planned else {
+            panic!("22 octets are more than {budget}");
+        };
+        let train: Vec<Vec<u8>> = (0..=255)
+            .map_while(|index| plan.segment(index))
+            .map(|segment| {
+                let mut output = filled(layout::ENCODING);
+                let written = segment.encode(1, &mut output).expect("a plan's segments");
+                output[..written].to_vec()
+            })
+            .collect();
+        assert_eq!(train.len(), 6);
+        let answers = window != AcknowledgmentWindow::Prohibited;
+        for number in 0..120 {
+            let order = delivery_order(6, number).expect("one of 120");
+            let made = Receiver::try_new(PEER, PROTOCOL, 2, 1, 22, 0);
+            let mut receiver = made.expect("a right peer");
+            for (place, sequence) in (1..).zip(&order) {
+                let octets = &train[usize::from(*sequence)];
+                let reception = receiver.receive(PEER, PROTOCOL, &decoded(octets), place);
+                let reception = reception.expect("it is taken");
+                let expected = Some(message.as_slice()).filter(|_| place == 6);
+                assert_eq!(reception.message, expected, "{order:?}");
+            }
+            assert_eq!(receiver.state(), ReceiverState::Complete);
+            for octets in &train {
+                let repeat = receiver.receive(PEER, PROTOCOL, &decoded(octets), 6);
+                let repeat = repeat.expect("it is held");
+                assert_eq!((repeat.message, repeat.response.is_some()), (None, answers));
+            }
+        }
+    }
+}
+
 #[test]
 fn receivers() {
     let mut record = receiver(65_280);
@@ -1192,7 +1323,7 @@ fn senders_end() {
     assert!(untouched(&state));
 }
 
-/// Every buffer empty: each entry refuses with 256, and nothing is read or written.
+/// Every buffer empty: each entry with a layout refuses with 256, delivery_order with 61, and nothing is read or written.
 #[test]
 fn empty_buffers() {
     let none = &mut [][..];
@@ -1226,6 +1357,8 @@ fn empty_buffers() {
             .iter()
             .all(|r| *r == Refusal::BUFFER_TOO_SHORT)
     );
+    let order = calls::delivery_order(2, 0, none);
+    assert_eq!(refusal(order), Refusal::OUTPUT_TOO_SHORT);
 }
 
 /// The typed layer on inputs that no one would give.

@@ -5,9 +5,8 @@
 use self::By::{Singly, Train};
 use crate::dialects::{self, BOTH, EMPTY, MOST, ROOM, SERVED, TWO, WINDOWS};
 use crate::exceptions::{ALL, Cutting, SIX, THREE};
-use crate::octets::{
-    FILL, PAST, Segment, at_front, difference, filled, head, pattern, stated, window,
-};
+use crate::octets::{FILL, PAST, Segment, at_front, difference, filled, head, pattern, stated};
+use crate::receiver::arrivals::brings;
 use crate::receiver::bench::{Lent, Reported, answer, reported};
 use crate::receiver::record::{self, Record};
 use crate::receiver::rows::{self, Call, Kind, Map, Outcome, Row, TRANSACTION};
@@ -190,15 +189,7 @@ impl<'a> Exchange<'a> {
 
     /// The call that brings a segment.
     fn call(&self, index: usize, reading: u64) -> Call {
-        let (sequence, octets) = (index as u8, self.heads[index].1 as usize);
-        let services = window(self.asked).filter(|_| self.asked != Prohibited);
-        let mut call = match index {
-            0 => rows::begin(services, octets, reading),
-            _ if index + 1 == self.heads.len() => rows::end(sequence, octets, reading),
-            _ => rows::later(sequence, octets, reading),
-        };
-        call.stated = stated(self.heads[index].0);
-        call
+        brings(&self.heads, self.asked, index, reading)
     }
 
     /// What the reception of a segment has to leave, and what it carries.

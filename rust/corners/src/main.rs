@@ -1,6 +1,6 @@
 //! The corners of document 01 and the boundary of each refusal, run on the exports and compared with what document 01 says (document 02 of
-//! release, the even planner, the planners under Exceptions and the converter, docs/EXPORTS.md of the exports' own refusals), a line for each group.
-//! A case that comes out otherwise is printed, and the status is then 1.
+//! release, the even planner, the planners under Exceptions, the converter and the delivery orders, docs/EXPORTS.md of the exports' own refusals), a
+//! line for each group. A case that comes out otherwise is printed, and the status is then 1.
 
 mod codec;
 mod dialects;
@@ -8,6 +8,7 @@ mod even;
 mod exceptions;
 mod exchange;
 mod octets;
+mod orders;
 mod own;
 mod plan;
 mod receiver;
@@ -21,6 +22,7 @@ fn main() -> ExitCode {
     let mut tally = Tally::default();
     codec::corners(&mut tally);
     plan::corners(&mut tally);
+    orders::corners(&mut tally);
     receiver::corners(&mut tally);
     sender::corners(&mut tally);
     exchange::corners(&mut tally);

@@ -78,6 +78,11 @@ pub const fn window(acknowledgment_window: AcknowledgmentWindow) -> Option<Optio
     services(Compression::None, acknowledgment_window, CrcStatus::None)
 }
 
+/// The services of a Begin that asks for a window: under Prohibited it has none.
+pub fn carried(asked: AcknowledgmentWindow) -> Option<OptionalServices> {
+    window(asked).filter(|_| asked != AcknowledgmentWindow::Prohibited)
+}
+
 /// Compression, window, CRC status.
 pub fn services_octets(services: OptionalServices) -> [u8; 3] {
     [
@@ -138,10 +143,9 @@ pub fn train(
     asked: AcknowledgmentWindow,
     data: &[u64],
 ) -> Vec<(Segment, u64)> {
-    let services = window(asked).filter(|_| asked != AcknowledgmentWindow::Prohibited);
     let last = data.len() - 1;
     let segment = |index: usize| match index {
-        0 => begin(transaction, length, services),
+        0 => begin(transaction, length, carried(asked)),
         _ if index == last => end(transaction, index as u8, None, None),
         _ => later(transaction, index as u8, None),
     };

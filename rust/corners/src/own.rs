@@ -312,7 +312,7 @@ fn misspellings(buffer: usize) -> &'static [(usize, u8)] {
 }
 
 impl Lent {
-    /// Buffers with which every entry is done.
+    /// Buffers with which every entry that has a layout is done.
     fn right() -> Self {
         let last = AcknowledgmentWindow::Last;
         let mut response = vec![0; layout::RESPONSE];

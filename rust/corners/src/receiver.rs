@@ -1,5 +1,6 @@
 //! Corners of the receiver: document 01's, the order and the boundaries of its refusals, and what each call leaves, run on hand-made calls.
 
+pub mod arrivals;
 pub mod bench;
 mod even;
 mod figures;
@@ -7,6 +8,7 @@ mod impossible;
 mod made;
 mod marked;
 mod one_call;
+mod orders;
 pub mod record;
 mod refusals;
 mod release;
@@ -31,6 +33,7 @@ pub fn corners(tally: &mut Tally) {
     figures::corners(tally);
     trains::corners(tally);
     even::corners(tally);
+    orders::corners(tally);
     release::corners(tally);
     one_call::corners(tally);
 }

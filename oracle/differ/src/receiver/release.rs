@@ -8,7 +8,7 @@ use crate::table::{
     Area, CLOCK_AND_CLOSED, FULL_RELEASED, IMPOSSIBLE_AND_CLOCK, LAST_RELEASED, LONG_RELEASED,
     RELEASED, SHORT_AND_IMPOSSIBLE, Table,
 };
-use crate::watch::{Case, Checked, same, same_given};
+use crate::watch::{Case, Checked, by_document_02, same, same_given};
 use catkhize::{calls, layout};
 use record::make::receiver_run::REASSEMBLY_MS;
 use record::octets::{Put, Take};
@@ -172,8 +172,7 @@ impl Port {
         let lent = (&mut self.record[..record], &mut self.store[..store]);
         let found = calls::receiver_release(lent.0, lent.1, reading);
         area.count(found);
-        let judged =
-            |what: String| format!("release: {}", what.replace("the original", "document 02"));
+        let judged = |what: String| format!("release: {}", by_document_02(what));
         same_given(found, expected).map_err(judged)?;
         same("record", &self.record, &expected_record).map_err(judged)?;
         same("store", &self.store, &expected_store).map_err(judged)?;

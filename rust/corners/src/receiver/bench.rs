@@ -225,6 +225,7 @@ impl Bench<'_> {
                 self.lent.record = at_front(&self.record.octets(), self.lent.record.len());
             }
             Row::Refill => self.lent.store.fill(FILL),
+            Row::RefillOutput => self.lent.output.fill(FILL),
             Row::Left(edit) => {
                 let (version, maximum) = (self.record.version, self.record.maximum);
                 let mut left = Record::new(OWN, TRANSACTION, version, maximum, 0);

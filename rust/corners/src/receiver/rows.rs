@@ -62,6 +62,8 @@ pub enum Row {
     Make(fn(&mut Record)),
     /// Every octet of the store is A5 again.
     Refill,
+    /// Every octet of the output is A5 again.
+    RefillOutput,
     /// The record that was compared last has to be a new receiver's of the same version and maximum with these fields set by hand.
     Left(fn(&mut Record)),
     /// This end, these services and this stated length have to stand in the record.
