@@ -17,6 +17,7 @@ use Rattle.segmentation.specs.Plan.{longer, planMessage, planOf, segmentCount, 
 use Rattle.segmentation.specs.declared.SegmentedMessage.{SegmentedMessage}
 use Rattle.orders.specs.Orders.{arranged, orderOf}
 use Rattle.orders.specs.Statement.{IsOrder}
+use Rattle.orders.proofs.Laws.{every-order-once}
 use Rattle.receiver.specs.Record.{sumTo, emptySlots, emptyLengths, joined, impossible, isHeld, complete}
 use Rattle.receiver.specs.Answers.{Answer, refused, answered, Step, refuses}
 use Rattle.receiver.specs.Receive.{sequence, kind, receiveOf}
@@ -27,7 +28,7 @@ use Rattle.delivery.specs.Demand.{planned, trainOf}
 use Rattle.delivery.specs.Witness.{text, terms₀, store₀, room, new-made, plan₀, planned as planned₀}
 use Rattle.delivery.specs.Refuted.{none-some}
 use Rattle.cases.specs.EveryOrder.{InTime, received, Served, EveryOrderServed}
-use Rattle.cases.specs.EveryOrderServed.{ours-served, numbered}
+use Rattle.cases.specs.EveryOrderServed.{ours-served}
 
 -- all segments at one reading
 abbrev still : ℕ → ℕ
@@ -68,7 +69,7 @@ made₆ = refl
 pub six-served : (k : ℕ) → k < 120 → Served tryNewOf (stepOf 300000) terms₆ 0 store₀ (trainOf plan₆ sixteen) still (λ place. replicate 16 165) sixteen 6 (orderOf 6 k)
 six-served k h =
     ours-served 300000 terms₆ 0 made₆ store₀ sixteen 6 (trainOf plan₆ sixteen) (planned 6 100 window.Prohibited plan₆ planned₆) (lit≤ tt) room still (still-in-time 6)
-    (λ place. replicate 16 165) (λ place. lit≤ tt) (orderOf 6 k) (numbered 6 k h)
+    (λ place. replicate 16 165) (λ place. lit≤ tt) (orderOf 6 k) (every-order-once 6 .each-is k h)
 
 -- ---- receivers of which it does not hold: by a train of three segments in the order 0 2 1
 
@@ -91,7 +92,7 @@ Turned step = Served tryNewOf step terms₀ 0 store₀ three still output text 3
 served-so : (step : StepFunction) → EveryOrderServed 300000 tryNewOf step → Turned step
 served-so step s =
     s terms₀ 0 new-made store₀ text 3 three (planned 6 100 window.Prohibited (plan₀ window.Prohibited true) planned₀) (lit≤ tt) room still (still-in-time 3) output (λ place. lit≤ tt)
-    (0 ∷ 2 ∷ 1 ∷ []) (subst (λ (o : List ℕ). IsOrder 3 o) order-1 (numbered 3 1 (lit≤ tt)))
+    (0 ∷ 2 ∷ 1 ∷ []) (subst (λ (o : List ℕ). IsOrder 3 o) order-1 (every-order-once 3 .each-is 1 (lit≤ tt)))
 
 -- what it answers to segment i behind a list of segments
 abbrev answer : StepFunction → List ℕ → ℕ → Answer

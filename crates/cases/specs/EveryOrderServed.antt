@@ -1,5 +1,4 @@
--- Every order of every train is served (EveryOrder) by a receiver of which demand 3's second half holds, and so by ours; and what write_order writes is
--- an order. Assumes nothing.
+-- Every order of every train is served (EveryOrder) by a receiver of which demand 3's second half holds, and so by ours. Assumes nothing.
 use Prim.Native.Nat.{ℕ, suc, _+_, _≤_, _<_, min}
 use mathlib.Core.Path.{_≡_, refl, sym, ap, subst, _∙_}
 use mathlib.Core.Logic.{_⊎_, inl, inr, ⊎-elim}
@@ -13,9 +12,8 @@ use borrow.Author.Tests.{ne-eqb, lt-ltb, le-ltb}
 use Rattle.octets.specs.Laws.{le-or-lt}
 use Rattle.tsar.specs.Layout.{WholeSegment}
 use Rattle.segmentation.specs.Cutting.{Cutting}
-use Rattle.orders.specs.Orders.{ordersOf, orderOf}
 use Rattle.orders.specs.Statement.{hit, occurs, IsOrder}
-use Rattle.orders.proofs.Laws.{hit-self, every-order-once}
+use Rattle.orders.proofs.Laws.{hit-self}
 use Rattle.receiver.specs.Record.{storeOctets}
 use Rattle.receiver.specs.Advance.{tryNewOf}
 use Rattle.receiver.specs.declared.Terms.{Terms}
@@ -277,7 +275,3 @@ every-order-served interval new step p t made e store message count segment trai
 -- ours
 pub ours-served : (interval : ℕ) → EveryOrderServed interval tryNewOf (stepOf interval)
 ours-served interval = every-order-served interval tryNewOf (stepOf interval) (demand3 interval .second-half)
-
--- what write_order writes, by number, is an order
-pub numbered : (n k : ℕ) → k < ordersOf n → IsOrder n (orderOf n k)
-numbered n k h = every-order-once n .each-is k h
