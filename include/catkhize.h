@@ -23,7 +23,7 @@
  * what the machine became. A train keeps what its segments before the refused one did.
  *
  * 'Document 01' is docs/01-scope.md with what docs/02-change-requests.md adds to it: 25 is of request
- * 2026-09, 26 of 2026-06, 28 of 2026-10. n/m is its refusal n with field m.
+ * 2026-09, 26 of 2026-06, 28 of 2026-10, 64 of 2026-11. n/m is its refusal n with field m.
  */
 #ifndef CATKHIZE_H
 #define CATKHIZE_H
@@ -98,8 +98,11 @@ extern "C" {
 #define CATKHIZE_REFUSED_OUTPUT_TOO_SHORT CATKHIZE_REFUSAL(61, 0)
 #define CATKHIZE_REFUSED_IMPOSSIBLE_STATE CATKHIZE_REFUSAL(62, 0)
 #define CATKHIZE_REFUSED_TICKETS CATKHIZE_REFUSAL(63, 0)
+/* When a machine is made, right after 31: a profile that is neither 1 nor 2. */
+#define CATKHIZE_REFUSED_PROFILE CATKHIZE_REFUSAL(64, 0)
 /* Of these calls alone, in this order and before any of document 01's; nothing is changed. A window above 5, a
- * protocol or failure above 2 and a dialect above 1 name no case. */
+ * protocol or failure above 2 and a dialect above 1 name no case. A profile is no such number: one that is neither
+ * 1 nor 2 gives 64 in its place, never 258. */
 #define CATKHIZE_REFUSED_BUFFER_TOO_SHORT CATKHIZE_REFUSAL(256, 0) /* a buffer with a layout is shorter than it */
 #define CATKHIZE_REFUSED_BUFFER_SPELLS_NONE CATKHIZE_REFUSAL(257, 0) /* such a buffer that is read spells nothing */
 #define CATKHIZE_REFUSED_NUMBER_NAMES_NONE CATKHIZE_REFUSAL(258, 0) /* a number that is given names no case */
@@ -122,19 +125,28 @@ extern "C" {
 #define CATKHIZE_RECEPTION_OCTETS 55u
 #define CATKHIZE_REPLY_OCTETS 46u
 #define CATKHIZE_WRITTEN_OCTETS 8u
-#define CATKHIZE_RECEIVER_OCTETS 3930u
+#define CATKHIZE_RECEIVER_OCTETS 3931u
 #define CATKHIZE_PLAN_OCTETS 5958u
-#define CATKHIZE_SENDER_OCTETS 6130u
+#define CATKHIZE_SENDER_OCTETS 6131u
 #define CATKHIZE_STATE_OCTETS 4u
 #define CATKHIZE_SUBMISSION_OCTETS 48u
 #define CATKHIZE_TRAIN_OCTETS 63u
 /* REPLY, RECEPTION and TRAIN had 42, 51 and 59 octets before the figures of missing entries came into them.
  * An answer of that size gives CATKHIZE_REFUSED_BUFFER_TOO_SHORT now. In a longer one the message stands four
  * octets further on: a program that is linked anew and not compiled anew reads the figures there, and misses
- * the message. Records and plans are as before. */
+ * the message. */
 
 /* The first octet of a receiver's, a plan's and a sender's buffer. */
-#define CATKHIZE_LAYOUT_VERSION 1u
+#define CATKHIZE_RECEIVER_LAYOUT_VERSION 2u
+#define CATKHIZE_PLAN_LAYOUT_VERSION 1u
+#define CATKHIZE_SENDER_LAYOUT_VERSION 2u
+/* WARNING to whoever keeps records in octets from one version of the library to the next: RECEIVER and SENDER
+ * had 3930 and 6130 octets and layout version 1 before the profile came into them (2026-11). A record of that
+ * version gives CATKHIZE_REFUSED_BUFFER_SPELLS_NONE in every call that takes it, and in a buffer of its own
+ * size CATKHIZE_REFUSED_BUFFER_TOO_SHORT before that. It is not changed, and there is no converter: bring
+ * machines to their end with the library that made them, or make them anew. A PLAN is read as it was written.
+ * Compile anew what calls catkhize_receiver_new or catkhize_sender_new, which take one argument more: the
+ * profile stands behind the version. */
 
 /* ---- Layouts ----
  *
@@ -238,6 +250,10 @@ extern "C" {
 #define CATKHIZE_PROTOCOL_CARRIER_SPECIFIC 1u
 #define CATKHIZE_PROTOCOL_OTHER 2u
 
+/* Profiles: how long a machine waits. 'Numbers that several calls take' has the figures. */
+#define CATKHIZE_PROFILE_1 1u
+#define CATKHIZE_PROFILE_2 2u
+
 /* RECEIVER. The fields after the layout version may be read by the caller; written only by the calls. */
 #define CATKHIZE_RECEIVER_AT_PEER_KIND 1u
 #define CATKHIZE_RECEIVER_AT_PEER_WIDTH 2u
@@ -246,23 +262,24 @@ extern "C" {
 #define CATKHIZE_RECEIVER_AT_PROTOCOL_OCTET 12u
 #define CATKHIZE_RECEIVER_AT_TRANSACTION 13u
 #define CATKHIZE_RECEIVER_AT_VERSION 14u
-#define CATKHIZE_RECEIVER_AT_MAXIMUM 15u /* 64 bits */
-#define CATKHIZE_RECEIVER_AT_STATE 23u
-#define CATKHIZE_RECEIVER_AT_STATUS 24u /* with Failed */
-#define CATKHIZE_RECEIVER_AT_COMPRESSION 25u
-#define CATKHIZE_RECEIVER_AT_WINDOW 26u
-#define CATKHIZE_RECEIVER_AT_CRC_STATUS 27u
-#define CATKHIZE_RECEIVER_AT_END_KNOWN 28u
-#define CATKHIZE_RECEIVER_AT_END 29u
-#define CATKHIZE_RECEIVER_AT_LENGTH_STATED 30u
-#define CATKHIZE_RECEIVER_AT_LENGTH 31u /* 16 bits */
-#define CATKHIZE_RECEIVER_AT_STORED_OCTETS 33u /* 64 bits */
-#define CATKHIZE_RECEIVER_AT_DEADLINE_RUNS 41u
-#define CATKHIZE_RECEIVER_AT_DEADLINE 42u /* 64 bits */
-#define CATKHIZE_RECEIVER_AT_LAST_READING 50u /* 64 bits */
-#define CATKHIZE_RECEIVER_AT_HELD 58u /* four words of 64 bits, as in a map */
-#define CATKHIZE_RECEIVER_AT_DATA_LENGTHS 90u /* 256 of 16 bits */
-#define CATKHIZE_RECEIVER_AT_SLOTS 602u /* 256 of 13 octets: the last 13 of a SEGMENT */
+#define CATKHIZE_RECEIVER_AT_PROFILE 15u
+#define CATKHIZE_RECEIVER_AT_MAXIMUM 16u /* 64 bits */
+#define CATKHIZE_RECEIVER_AT_STATE 24u
+#define CATKHIZE_RECEIVER_AT_STATUS 25u /* with Failed */
+#define CATKHIZE_RECEIVER_AT_COMPRESSION 26u
+#define CATKHIZE_RECEIVER_AT_WINDOW 27u
+#define CATKHIZE_RECEIVER_AT_CRC_STATUS 28u
+#define CATKHIZE_RECEIVER_AT_END_KNOWN 29u
+#define CATKHIZE_RECEIVER_AT_END 30u
+#define CATKHIZE_RECEIVER_AT_LENGTH_STATED 31u
+#define CATKHIZE_RECEIVER_AT_LENGTH 32u /* 16 bits */
+#define CATKHIZE_RECEIVER_AT_STORED_OCTETS 34u /* 64 bits */
+#define CATKHIZE_RECEIVER_AT_DEADLINE_RUNS 42u
+#define CATKHIZE_RECEIVER_AT_DEADLINE 43u /* 64 bits */
+#define CATKHIZE_RECEIVER_AT_LAST_READING 51u /* 64 bits */
+#define CATKHIZE_RECEIVER_AT_HELD 59u /* four words of 64 bits, as in a map */
+#define CATKHIZE_RECEIVER_AT_DATA_LENGTHS 91u /* 256 of 16 bits */
+#define CATKHIZE_RECEIVER_AT_SLOTS 603u /* 256 of 13 octets: the last 13 of a SEGMENT */
 
 #define CATKHIZE_RECEIVER_AWAITING_BEGIN 0u
 #define CATKHIZE_RECEIVER_RECEIVING 1u
@@ -275,12 +292,11 @@ extern "C" {
  * number of data octets of a later segment, of the last one as far as the message goes. Where the capacities
  * leave octets over (message octets less Begin's less (count - 1) * LATER_CAPACITY), so many later
  * segments, the first ones, have one octet more; catkhize_plan_message leaves none over. A plan with octets
- * left over, and a SENDER made of one, are not for a library before 2026-02, which gives no octet more. The
- * frozen part of a plan that a planner makes is 0, and catkhize_sender_new refuses another with 40. It also
- * refuses with 40 a planned PLAN under Exceptions, which a library before 2026-09 made. The train of one is
- * accepted by catkhize_try_from_frozen: the HEADs that catkhize_plan_segment gives, the message as joined, and
- * the PLAN's count and budget. A SENDER that was made of one goes on. Frozen: by catkhize_try_from_frozen and
- * catkhize_convert, heads; the planned part is 0. */
+ * left over is not for a library before 2026-02, which gives no octet more. The frozen part of a plan that a
+ * planner makes is 0, and catkhize_sender_new refuses another with 40. It also refuses with 40 a planned PLAN
+ * under Exceptions, which a library before 2026-09 made. The train of one is accepted by
+ * catkhize_try_from_frozen: the HEADs that catkhize_plan_segment gives, the message as joined, and the PLAN's
+ * count and budget. Frozen: by catkhize_try_from_frozen and catkhize_convert, heads; the planned part is 0. */
 #define CATKHIZE_PLAN_AT_FORM 1u
 #define CATKHIZE_PLAN_AT_MESSAGE_OCTETS 2u /* planned; 64 bits, as all below but where said */
 #define CATKHIZE_PLAN_AT_BUDGET 10u
@@ -310,21 +326,22 @@ extern "C" {
 #define CATKHIZE_SENDER_AT_PROTOCOL 11u
 #define CATKHIZE_SENDER_AT_PROTOCOL_OCTET 12u
 #define CATKHIZE_SENDER_AT_VERSION 13u
-#define CATKHIZE_SENDER_AT_NUMBER 14u /* 64 bits */
-#define CATKHIZE_SENDER_AT_STATE 22u /* STATE */
-#define CATKHIZE_SENDER_AT_SUBMISSION_PRESENT 26u
-#define CATKHIZE_SENDER_AT_SUBMISSION_TICKET 27u /* 64 bits */
-#define CATKHIZE_SENDER_AT_SUBMISSION_INDEX 35u
-#define CATKHIZE_SENDER_AT_SUBMISSION_PREPARED 36u /* 64 bits */
-#define CATKHIZE_SENDER_AT_LAST_TICKET 44u /* 64 bits */
-#define CATKHIZE_SENDER_AT_SUBMITTED 52u /* four words of 64 bits, as in a map; the next two too */
-#define CATKHIZE_SENDER_AT_RETRY 84u
-#define CATKHIZE_SENDER_AT_RECEIVED 116u
-#define CATKHIZE_SENDER_AT_DEADLINE_RUNS 148u
-#define CATKHIZE_SENDER_AT_DEADLINE 149u /* 64 bits */
-#define CATKHIZE_SENDER_AT_LAST_READING 157u /* 64 bits */
-#define CATKHIZE_SENDER_AT_SUBMISSIONS 165u /* 64 bits */
-#define CATKHIZE_SENDER_AT_PLAN 173u /* a PLAN without its layout version */
+#define CATKHIZE_SENDER_AT_PROFILE 14u
+#define CATKHIZE_SENDER_AT_NUMBER 15u /* 64 bits */
+#define CATKHIZE_SENDER_AT_STATE 23u /* STATE */
+#define CATKHIZE_SENDER_AT_SUBMISSION_PRESENT 27u
+#define CATKHIZE_SENDER_AT_SUBMISSION_TICKET 28u /* 64 bits */
+#define CATKHIZE_SENDER_AT_SUBMISSION_INDEX 36u
+#define CATKHIZE_SENDER_AT_SUBMISSION_PREPARED 37u /* 64 bits */
+#define CATKHIZE_SENDER_AT_LAST_TICKET 45u /* 64 bits */
+#define CATKHIZE_SENDER_AT_SUBMITTED 53u /* four words of 64 bits, as in a map; the next two too */
+#define CATKHIZE_SENDER_AT_RETRY 85u
+#define CATKHIZE_SENDER_AT_RECEIVED 117u
+#define CATKHIZE_SENDER_AT_DEADLINE_RUNS 149u
+#define CATKHIZE_SENDER_AT_DEADLINE 150u /* 64 bits */
+#define CATKHIZE_SENDER_AT_LAST_READING 158u /* 64 bits */
+#define CATKHIZE_SENDER_AT_SUBMISSIONS 166u /* 64 bits */
+#define CATKHIZE_SENDER_AT_PLAN 174u /* a PLAN without its layout version */
 
 /* STATE: what does not apply is 0. */
 #define CATKHIZE_STATE_AT_STATE 0u
@@ -409,6 +426,17 @@ static inline int catkhize_entry(const uint8_t *words, unsigned i) {
  * version: the protocol version under which segments and responses are written and read. 1 is Pv1, 5 is
  * Pv5; 0 is refused with 1. From 1 on all are treated alike, but that a response has a support list from 5
  * on only.
+ *
+ * profile: how long a machine waits, which is its own interval. CATKHIZE_PROFILE_1 or CATKHIZE_PROFILE_2, chosen
+ * when the machine is made and fixed after that; its record has it. Any other number is refused with 64
+ * (CATKHIZE_REFUSED_PROFILE), right after 31.
+ *     profile 1: a receiver waits 300,000 ms, a sender 330,000 ms
+ *     profile 2: a receiver waits 120,000 ms, a sender 150,000 ms
+ * Give a sender and the receiver at its other end one profile: then the sender waits 30,000 ms longer than the
+ * receiver. A sender of profile 2 acts before a receiver of profile 1 has asked for what is missing.
+ * A record of neither profile, which no call makes, spells a machine in an impossible state. Every call that
+ * takes it refuses it with 62, in 62's place, and changes nothing (a train by its first segment, if that can be
+ * decoded; a train of no segments gives 0); but catkhize_sender_submission answers what the record offers.
  *
  * budget, ceiling: the budget is how many octets one encoded segment may have. The ceiling is the source's
  * MAX_DATA_PAYLOAD_OCTETS, the most octets that a payload of the layer below has room for: a budget above
@@ -550,21 +578,24 @@ uint32_t catkhize_delivery_order(
  * has set its store to 0 already, and both are refused with 38.
  *
  * When to advance. Nothing happens between calls. While a deadline runs (the record's flag and number;
- * each segment that is taken and leaves the receiver open sets it to 300,000 ms after its reading), call
- * catkhize_receiver_advance at that reading, or as soon after it as may be: under Prohibited the receiver
- * expires, under any other window the answer has the response that asks for what is missing, and the
- * receiver stays open without a deadline until the next segment. Before the deadline advancing only takes
- * the reading. A segment that comes at the deadline itself is taken if catkhize_receiver_receive is called
- * first; past the deadline receiving gives 37 and changes nothing (advance, then give the segment again),
- * or under Prohibited 38, and the receiver has expired. */
+ * each segment that is taken and leaves the receiver open, a repeat too, sets it to the receiver's own
+ * interval after its reading), call catkhize_receiver_advance at that reading, or as soon after it as may
+ * be: under Prohibited the receiver expires, under any other window the answer has the response that asks
+ * for what is missing, and the receiver stays open without a deadline until the next segment. Before the
+ * deadline advancing only takes the reading. A segment that comes at the deadline itself is taken if
+ * catkhize_receiver_receive is called first; past the deadline receiving gives 37 and changes nothing
+ * (advance, then give the segment again), or under Prohibited 38, and the receiver has expired. */
 
-/* Writes a new receiver to record. Messages of up to maximum octets are taken. */
+/* Writes a new receiver to record. Messages of up to maximum octets are taken. The refusals, in this order:
+ * 256; 258 for a protocol above 2; 30; 31; 64 for a profile that is neither 1 nor 2; 1 for version 0; 6/1 for
+ * a transaction above 7. After a refusal record is as it was. */
 uint32_t catkhize_receiver_new(
     uint8_t *record, size_t record_octets, /* RECEIVER */
     uint8_t peer_kind, uint8_t peer_width, uint64_t peer_value,
     uint8_t protocol, uint8_t protocol_octet,
     uint8_t transaction,
     uint8_t version,
+    uint8_t profile,
     uint64_t maximum,
     uint64_t reading);
 
@@ -641,15 +672,17 @@ uint32_t catkhize_receiver_train(
  * copy of it that is called too offers the same tickets.
  *
  * When to advance. While a deadline runs (the record's flag and number; catkhize_sender_submitted sets it
- * to 330,000 ms after queued; under Prohibited the last segment has none), call catkhize_sender_advance at
- * that reading, or as soon after it as may be. Under Prohibited the sender then fails; under Exceptions it
- * completes if all is sent and accepted; in every other case the segment that is not accepted yet, or all
- * that the peer has not acknowledged (the last segment if that is none), is offered again. Before the
- * deadline advancing only takes the reading. Cancelling, accepting and failing at or past the deadline let
- * it act first. So does a response past the deadline; one that comes at the deadline itself is taken, and
- * the deadline acts after it. */
+ * to the sender's own interval after queued; under Prohibited the last segment has none), call
+ * catkhize_sender_advance at that reading, or as soon after it as may be. Under Prohibited the sender then
+ * fails; under Exceptions it completes if all is sent and accepted; in every other case the segment that is
+ * not accepted yet, or all that the peer has not acknowledged (the last segment if that is none), is offered
+ * again. Before the deadline advancing only takes the reading. Cancelling, accepting and failing at or past
+ * the deadline let it act first. So does a response past the deadline; one that comes at the deadline itself
+ * is taken, and the deadline acts after it. */
 
-/* Writes a new sender to record. Its first submission is offered at once. */
+/* Writes a new sender to record. Its first submission is offered at once. The refusals, in this order: 256;
+ * 257 for a plan that spells none; 258 for a protocol above 2; 30; 31; 64 for a profile that is neither 1 nor
+ * 2; 40; 1 for version 0. After a refusal record is as it was. */
 uint32_t catkhize_sender_new(
     uint8_t *record, size_t record_octets, /* SENDER */
     uint8_t peer_kind, uint8_t peer_width, uint64_t peer_value,
@@ -657,6 +690,7 @@ uint32_t catkhize_sender_new(
     const uint8_t *plan, size_t plan_octets, /* PLAN */
     const uint8_t *message, size_t message_octets,
     uint8_t version,
+    uint8_t profile,
     uint64_t number,
     uint64_t reading);
 

@@ -1,6 +1,6 @@
 /*
- * Calls every entry of the core and checks what it gets; then says how much stack the calls took. tools/link builds and runs it, as C and
- * as C++.
+ * Calls every entry of the core and checks what it gets, the machines' under each profile; then says how much stack the calls took. tools/link
+ * builds and runs it, as C and as C++.
  */
 #define _XOPEN_SOURCE 700
 
@@ -16,13 +16,24 @@
 static unsigned checks;
 static unsigned failures;
 
-#define CHECK(condition)                                                       \
-    do {                                                                       \
-        checks++;                                                              \
-        if (!(condition)) {                                                    \
-            failures++;                                                        \
-            printf("line %d: %s\n", __LINE__, #condition);                     \
-        }                                                                      \
+/* A profile, and how long a receiver and a sender of it wait. */
+struct profile {
+    uint8_t number;
+    uint64_t receiver_waits, sender_waits;
+};
+
+static const struct profile profiles[2] = {{1, 300000u, 330000u}, {2, 120000u, 150000u}};
+
+/* The one that machines are made with. */
+static const struct profile *own = profiles;
+
+#define CHECK(condition)                                                             \
+    do {                                                                             \
+        checks++;                                                                    \
+        if (!(condition)) {                                                          \
+            failures++;                                                              \
+            printf("line %d, profile %u: %s\n", __LINE__, own->number, #condition);  \
+        }                                                                            \
     } while (0)
 
 static uint8_t record[CATKHIZE_RECEIVER_OCTETS];
@@ -89,6 +100,8 @@ static void test_numbers(void) {
     CHECK(CATKHIZE_REFUSED_EXCEPTIONS_WINDOW == 6400u);
     CHECK(CATKHIZE_REFUSED_OTHER_PATTERN == 6656u);
     CHECK(CATKHIZE_REFUSED_ORDER_NUMBER == 7168u && CATKHIZE_REFUSED_OUTPUT_TOO_SHORT == 15616u);
+    CHECK(CATKHIZE_REFUSED_PROFILE == 16384u && !CATKHIZE_IS_OWN_REFUSAL(CATKHIZE_REFUSED_PROFILE));
+    CHECK(CATKHIZE_PROFILE_1 == 1u && CATKHIZE_PROFILE_2 == 2u);
     CHECK(CATKHIZE_REFUSAL_N(1539u) == 6u && CATKHIZE_REFUSAL_M(1539u) == 3u);
     CHECK(CATKHIZE_IS_REFUSAL(CATKHIZE_REFUSED_VERSION) && !CATKHIZE_IS_REFUSAL(CATKHIZE_NOTHING));
     CHECK(CATKHIZE_REFUSED_BUFFER_TOO_SHORT == 65536u);
@@ -103,7 +116,7 @@ static void test_numbers(void) {
     CHECK(catkhize_get32(octets) == 0x01234567u && catkhize_get16(octets + 2) == 0x4567u);
 }
 
-/* Where the parts of an answer stand, one behind another. */
+/* Where the parts of an answer stand, one behind another; sizes, versions and offsets of the records. */
 static void test_layouts(void) {
     CHECK(CATKHIZE_REPLY_AT_MISSING == CATKHIZE_REPLY_AT_RESPONSE + CATKHIZE_RESPONSE_OCTETS);
     CHECK(CATKHIZE_REPLY_AT_FIRST_MISSING == CATKHIZE_REPLY_AT_MISSING + 2u);
@@ -114,6 +127,22 @@ static void test_layouts(void) {
     CHECK(CATKHIZE_RECEPTION_OCTETS == CATKHIZE_RECEPTION_AT_MESSAGE_OCTETS + 8u);
     CHECK(CATKHIZE_TRAIN_OCTETS == CATKHIZE_TRAIN_AT_RECEPTION + CATKHIZE_RECEPTION_OCTETS);
     CHECK(CATKHIZE_NONE_MISSING == 256u);
+    CHECK(CATKHIZE_RECEIVER_OCTETS == 3931u && CATKHIZE_RECEIVER_LAYOUT_VERSION == 2u);
+    CHECK(CATKHIZE_PLAN_OCTETS == 5958u && CATKHIZE_PLAN_LAYOUT_VERSION == 1u);
+    CHECK(CATKHIZE_SENDER_OCTETS == 6131u && CATKHIZE_SENDER_LAYOUT_VERSION == 2u);
+    CHECK(CATKHIZE_RECEIVER_AT_TRANSACTION == 13u && CATKHIZE_RECEIVER_AT_VERSION == 14u && CATKHIZE_RECEIVER_AT_PROFILE == 15u);
+    CHECK(CATKHIZE_RECEIVER_AT_MAXIMUM == 16u && CATKHIZE_RECEIVER_AT_STATE == 24u && CATKHIZE_RECEIVER_AT_STATUS == 25u);
+    CHECK(CATKHIZE_RECEIVER_AT_COMPRESSION == 26u && CATKHIZE_RECEIVER_AT_WINDOW == 27u && CATKHIZE_RECEIVER_AT_CRC_STATUS == 28u);
+    CHECK(CATKHIZE_RECEIVER_AT_END_KNOWN == 29u && CATKHIZE_RECEIVER_AT_END == 30u);
+    CHECK(CATKHIZE_RECEIVER_AT_LENGTH_STATED == 31u && CATKHIZE_RECEIVER_AT_LENGTH == 32u && CATKHIZE_RECEIVER_AT_STORED_OCTETS == 34u);
+    CHECK(CATKHIZE_RECEIVER_AT_DEADLINE_RUNS == 42u && CATKHIZE_RECEIVER_AT_DEADLINE == 43u && CATKHIZE_RECEIVER_AT_LAST_READING == 51u);
+    CHECK(CATKHIZE_RECEIVER_AT_HELD == 59u && CATKHIZE_RECEIVER_AT_DATA_LENGTHS == 91u && CATKHIZE_RECEIVER_AT_SLOTS == 603u);
+    CHECK(CATKHIZE_SENDER_AT_VERSION == 13u && CATKHIZE_SENDER_AT_PROFILE == 14u && CATKHIZE_SENDER_AT_NUMBER == 15u);
+    CHECK(CATKHIZE_SENDER_AT_STATE == 23u && CATKHIZE_SENDER_AT_SUBMISSION_PRESENT == 27u && CATKHIZE_SENDER_AT_SUBMISSION_TICKET == 28u);
+    CHECK(CATKHIZE_SENDER_AT_SUBMISSION_INDEX == 36u && CATKHIZE_SENDER_AT_SUBMISSION_PREPARED == 37u && CATKHIZE_SENDER_AT_LAST_TICKET == 45u);
+    CHECK(CATKHIZE_SENDER_AT_SUBMITTED == 53u && CATKHIZE_SENDER_AT_RETRY == 85u && CATKHIZE_SENDER_AT_RECEIVED == 117u);
+    CHECK(CATKHIZE_SENDER_AT_DEADLINE_RUNS == 149u && CATKHIZE_SENDER_AT_DEADLINE == 150u && CATKHIZE_SENDER_AT_LAST_READING == 158u);
+    CHECK(CATKHIZE_SENDER_AT_SUBMISSIONS == 166u && CATKHIZE_SENDER_AT_PLAN == 174u);
 }
 
 static void test_encode(void) {
@@ -186,7 +215,7 @@ static void test_plan(void) {
     CHECK(catkhize_plan_message(message, 7, 6, 0, CATKHIZE_WINDOW_PROHIBITED, 1, 6, plan, sizeof plan - 1) == CATKHIZE_REFUSED_BUFFER_TOO_SHORT);
     CHECK(untouched(plan, sizeof plan));
     CHECK(catkhize_plan_message(message, 7, 6, 0, CATKHIZE_WINDOW_PROHIBITED, 1, 6, plan, sizeof plan) == CATKHIZE_DONE);
-    CHECK(plan[0] == CATKHIZE_LAYOUT_VERSION && plan[CATKHIZE_PLAN_AT_FORM] == CATKHIZE_PLAN_PLANNED);
+    CHECK(plan[0] == CATKHIZE_PLAN_LAYOUT_VERSION && plan[CATKHIZE_PLAN_AT_FORM] == CATKHIZE_PLAN_PLANNED);
     CHECK(plan[CATKHIZE_PLAN_AT_STATES_LENGTH] == 1);
     cuts(3, lengths, offsets);
     CHECK(catkhize_get16(answer + CATKHIZE_SEGMENT_AT_LENGTH) == 0 && answer[CATKHIZE_SEGMENT_AT_KIND] == CATKHIZE_KIND_END);
@@ -194,7 +223,7 @@ static void test_plan(void) {
     CHECK(catkhize_plan_segment(plan, sizeof plan, 0, answer, CATKHIZE_PART_OCTETS - 1u) == CATKHIZE_REFUSED_BUFFER_TOO_SHORT);
     plan[0] = 2;
     CHECK(catkhize_plan_segment(plan, sizeof plan, 0, answer, CATKHIZE_PART_OCTETS) == CATKHIZE_REFUSED_BUFFER_SPELLS_NONE);
-    plan[0] = CATKHIZE_LAYOUT_VERSION;
+    plan[0] = CATKHIZE_PLAN_LAYOUT_VERSION;
     CHECK(untouched(answer, sizeof answer));
 }
 
@@ -251,7 +280,7 @@ static void test_even(void) {
     CHECK(catkhize_plan_segment(plan, sizeof plan, 0, begin, sizeof begin) == CATKHIZE_DONE);
     fill(plan, sizeof plan);
     CHECK(catkhize_plan_even(eight, 8, 6, 0, CATKHIZE_WINDOW_PROHIBITED, 1, 6, plan, sizeof plan) == CATKHIZE_DONE);
-    CHECK(plan[0] == CATKHIZE_LAYOUT_VERSION && plan[CATKHIZE_PLAN_AT_FORM] == CATKHIZE_PLAN_PLANNED);
+    CHECK(plan[0] == CATKHIZE_PLAN_LAYOUT_VERSION && plan[CATKHIZE_PLAN_AT_FORM] == CATKHIZE_PLAN_PLANNED);
     CHECK(catkhize_get64(plan + CATKHIZE_PLAN_AT_LATER_CAPACITY) == 2);
     cuts(4, even_lengths, even_offsets);
     CHECK(answer[CATKHIZE_SEGMENT_AT_KIND] == CATKHIZE_KIND_END);
@@ -332,7 +361,7 @@ static void test_convert(void) {
     CHECK(memcmp(converted, begin_only, sizeof begin_only) == 0);
     CHECK(convert(converted + CATKHIZE_PLAN_AT_FROZEN_HEADS, 8, CATKHIZE_DIALECT_BEGIN_ONLY, plan) == CATKHIZE_DONE);
     CHECK(memcmp(plan, every, sizeof every) == 0);
-    CHECK(plan[0] == CATKHIZE_LAYOUT_VERSION && plan[CATKHIZE_PLAN_AT_FORM] == CATKHIZE_PLAN_FROZEN);
+    CHECK(plan[0] == CATKHIZE_PLAN_LAYOUT_VERSION && plan[CATKHIZE_PLAN_AT_FORM] == CATKHIZE_PLAN_FROZEN);
     CHECK(catkhize_plan_segment(plan, sizeof plan, 2, answer, sizeof answer) == CATKHIZE_DONE);
     CHECK(answer[CATKHIZE_SEGMENT_AT_LENGTH_STATED] == 1 && catkhize_get16(answer + CATKHIZE_SEGMENT_AT_LENGTH) == 7);
     CHECK(catkhize_get64(answer + CATKHIZE_HEAD_AT_DATA_LENGTH) == 3 && catkhize_get64(answer + CATKHIZE_PART_AT_OFFSET) == 4);
@@ -507,7 +536,8 @@ static void new_receiver(uint64_t reading) {
     fill(record, sizeof record);
     fill(store, sizeof store);
     fill(output, sizeof output);
-    CHECK(catkhize_receiver_new(record, sizeof record, PEER, PROTOCOL, 2, 1, CATKHIZE_STORE_OCTETS, reading) == CATKHIZE_DONE);
+    CHECK(catkhize_receiver_new(record, sizeof record, PEER, PROTOCOL, 2, 1, own->number, CATKHIZE_STORE_OCTETS, reading) == CATKHIZE_DONE);
+    CHECK(record[CATKHIZE_RECEIVER_AT_PROFILE] == own->number);
     CHECK(record[CATKHIZE_RECEIVER_AT_STATE] == CATKHIZE_RECEIVER_AWAITING_BEGIN);
     CHECK(untouched(store, sizeof store) && untouched(output, sizeof output));
 }
@@ -515,10 +545,10 @@ static void new_receiver(uint64_t reading) {
 static void test_receiver(void) {
     uint8_t segment[CATKHIZE_SEGMENT_OCTETS];
     fill(record, sizeof record);
-    CHECK(catkhize_receiver_new(record, sizeof record, 0, 34, 0, PROTOCOL, 2, 1, 100, 0) == CATKHIZE_REFUSED_IDENTITY);
-    CHECK(catkhize_receiver_new(record, sizeof record, PEER, CATKHIZE_PROTOCOL_OTHER, 0, 2, 1, 100, 0) == CATKHIZE_REFUSED_SERVICE);
-    CHECK(catkhize_receiver_new(record, sizeof record, PEER, 3, 0, 2, 1, 100, 0) == CATKHIZE_REFUSED_NUMBER_NAMES_NONE);
-    CHECK(catkhize_receiver_new(record, sizeof record - 1, PEER, PROTOCOL, 2, 1, 100, 0) == CATKHIZE_REFUSED_BUFFER_TOO_SHORT);
+    CHECK(catkhize_receiver_new(record, sizeof record, 0, 34, 0, PROTOCOL, 2, 1, own->number, 100, 0) == CATKHIZE_REFUSED_IDENTITY);
+    CHECK(catkhize_receiver_new(record, sizeof record, PEER, CATKHIZE_PROTOCOL_OTHER, 0, 2, 1, own->number, 100, 0) == CATKHIZE_REFUSED_SERVICE);
+    CHECK(catkhize_receiver_new(record, sizeof record, PEER, 3, 0, 2, 1, own->number, 100, 0) == CATKHIZE_REFUSED_NUMBER_NAMES_NONE);
+    CHECK(catkhize_receiver_new(record, sizeof record - 1, PEER, PROTOCOL, 2, 1, own->number, 100, 0) == CATKHIZE_REFUSED_BUFFER_TOO_SHORT);
     CHECK(untouched(record, sizeof record));
 
     new_receiver(1000);
@@ -533,7 +563,7 @@ static void test_receiver(void) {
     CHECK(record[CATKHIZE_RECEIVER_AT_STATE] == CATKHIZE_RECEIVER_RECEIVING);
     CHECK(catkhize_get64(record + CATKHIZE_RECEIVER_AT_STORED_OCTETS) == 4);
     CHECK(record[CATKHIZE_RECEIVER_AT_DEADLINE_RUNS] == 1);
-    CHECK(catkhize_get64(record + CATKHIZE_RECEIVER_AT_DEADLINE) == 301000u);
+    CHECK(catkhize_get64(record + CATKHIZE_RECEIVER_AT_DEADLINE) == 1000 + own->receiver_waits);
     CHECK(catkhize_entry(record + CATKHIZE_RECEIVER_AT_HELD, 0) && !catkhize_entry(record + CATKHIZE_RECEIVER_AT_HELD, 1));
     segment_of(segment, 2, 1, CATKHIZE_KIND_END);
     CHECK(receive(segment, message + 4, 3, 2000) == CATKHIZE_DONE);
@@ -559,17 +589,17 @@ static void test_receiver_time(void) {
     begin_of(segment, 2, CATKHIZE_WINDOW_EVERY4);
     CHECK(receive(segment, message, 1, 0) == CATKHIZE_DONE);
     fill(answer, sizeof answer);
-    CHECK(catkhize_receiver_advance(record, sizeof record, store, sizeof store, 299999, answer, sizeof answer) == CATKHIZE_DONE);
+    CHECK(catkhize_receiver_advance(record, sizeof record, store, sizeof store, own->receiver_waits - 1, answer, sizeof answer) == CATKHIZE_DONE);
     CHECK(zero(answer, CATKHIZE_REPLY_OCTETS) && untouched(answer + CATKHIZE_REPLY_OCTETS, sizeof answer - CATKHIZE_REPLY_OCTETS));
     fill(answer, sizeof answer);
-    CHECK(catkhize_receiver_advance(record, sizeof record, store, sizeof store, 300000, answer, sizeof answer) == CATKHIZE_DONE);
+    CHECK(catkhize_receiver_advance(record, sizeof record, store, sizeof store, own->receiver_waits, answer, sizeof answer) == CATKHIZE_DONE);
     CHECK(says(answer, CATKHIZE_STATUS_INTER_SEGMENT_TIMEOUT, 2, 1, 1));
     CHECK(untouched(answer + CATKHIZE_REPLY_OCTETS, sizeof answer - CATKHIZE_REPLY_OCTETS));
-    CHECK(catkhize_receiver_advance(record, sizeof record, store, sizeof store, 299999, answer, sizeof answer) == CATKHIZE_REFUSED_CLOCK_REGRESSION);
-    CHECK(catkhize_receiver_cancel(record, sizeof record, store, sizeof store, 300000) == CATKHIZE_DONE);
+    CHECK(catkhize_receiver_advance(record, sizeof record, store, sizeof store, own->receiver_waits - 1, answer, sizeof answer) == CATKHIZE_REFUSED_CLOCK_REGRESSION);
+    CHECK(catkhize_receiver_cancel(record, sizeof record, store, sizeof store, own->receiver_waits) == CATKHIZE_DONE);
     CHECK(record[CATKHIZE_RECEIVER_AT_STATE] == CATKHIZE_RECEIVER_CANCELED);
     CHECK(zero(store, CATKHIZE_STORE_OCTETS) && untouched(store + CATKHIZE_STORE_OCTETS, 8));
-    CHECK(receive(segment, message, 1, 300000) == CATKHIZE_REFUSED_CLOSED);
+    CHECK(receive(segment, message, 1, own->receiver_waits) == CATKHIZE_REFUSED_CLOSED);
 }
 
 static uint8_t record_before[CATKHIZE_RECEIVER_OCTETS];
@@ -665,6 +695,7 @@ static uint32_t receive_one(uint8_t sequence, uint64_t reading) {
 static void test_figures(void) {
     uint8_t segment[CATKHIZE_SEGMENT_OCTETS];
     const uint8_t other = 9;
+    const uint64_t waits = own->receiver_waits;
     new_receiver(0);
     CHECK(receive_one(0, 0) == CATKHIZE_DONE && zero(answer, CATKHIZE_RECEPTION_OCTETS));
     CHECK(receive_one(3, 0) == CATKHIZE_DONE && says(answer, CATKHIZE_STATUS_CONTINUING, 4, 2, 1));
@@ -672,12 +703,12 @@ static void test_figures(void) {
     CHECK(untouched(answer + CATKHIZE_RECEPTION_OCTETS, sizeof answer - CATKHIZE_RECEPTION_OCTETS));
     CHECK(receive_one(5, 0) == CATKHIZE_DONE && says(answer, CATKHIZE_STATUS_CONTINUING, 6, 3, 1));
     fill(answer, sizeof answer);
-    CHECK(catkhize_receiver_advance(record, sizeof record, store, sizeof store, 300000, answer, sizeof answer) == CATKHIZE_DONE);
+    CHECK(catkhize_receiver_advance(record, sizeof record, store, sizeof store, waits, answer, sizeof answer) == CATKHIZE_DONE);
     CHECK(says(answer, CATKHIZE_STATUS_INTER_SEGMENT_TIMEOUT, 6, 3, 1));
-    CHECK(receive_one(1, 300000) == CATKHIZE_DONE && zero(answer, CATKHIZE_RECEPTION_OCTETS));
-    CHECK(receive_one(2, 300000) == CATKHIZE_DONE && zero(answer, CATKHIZE_RECEPTION_OCTETS));
-    CHECK(receive_one(3, 300000) == CATKHIZE_DONE && says(answer, CATKHIZE_STATUS_CONTINUING, 6, 1, 4));
-    CHECK(receive_one(4, 300000) == CATKHIZE_DONE && says(answer, CATKHIZE_STATUS_RECEIVED, 6, 0, CATKHIZE_NONE_MISSING));
+    CHECK(receive_one(1, waits) == CATKHIZE_DONE && zero(answer, CATKHIZE_RECEPTION_OCTETS));
+    CHECK(receive_one(2, waits) == CATKHIZE_DONE && zero(answer, CATKHIZE_RECEPTION_OCTETS));
+    CHECK(receive_one(3, waits) == CATKHIZE_DONE && says(answer, CATKHIZE_STATUS_CONTINUING, 6, 1, 4));
+    CHECK(receive_one(4, waits) == CATKHIZE_DONE && says(answer, CATKHIZE_STATUS_RECEIVED, 6, 0, CATKHIZE_NONE_MISSING));
     CHECK(answer[CATKHIZE_RECEPTION_AT_HANDED_OVER] == 1 && catkhize_get64(answer + CATKHIZE_RECEPTION_AT_MESSAGE_OCTETS) == 6);
 
     /* A repeat that differs: its slot is held, and the map ends there. */
@@ -691,6 +722,7 @@ static void test_figures(void) {
     begin_of(segment, 2, CATKHIZE_WINDOW_EVERY4);
     segment[CATKHIZE_SEGMENT_AT_COMPRESSION] = CATKHIZE_COMPRESSION_V42BIS;
     CHECK(receive(segment, &other, 1, 0) == CATKHIZE_DONE && says(answer, CATKHIZE_STATUS_COMPRESSION_UNSUPPORTED, 1, 1, 0));
+    CHECK(record[CATKHIZE_RECEIVER_AT_STATE] == CATKHIZE_RECEIVER_FAILED && record[CATKHIZE_RECEIVER_AT_PROFILE] == own->number);
 }
 
 /* A message in six segments of 1, 3, 3, 3, 3 and 3 octets, delivered in order 77 of 120: the last of them hands it over, and no other. */
@@ -823,6 +855,264 @@ static void test_short_answers(void) {
     CHECK(untouched(answer, sizeof answer) && untouched(store, sizeof store));
 }
 
+/* Numbers that are no profile. */
+static const uint8_t neither[9] = {0, 3, 4, 127, 128, 129, 130, 254, 255};
+
+/* Making a receiver is refused so, and the record is as it was. */
+static int refuses_receiver(uint32_t refusal, size_t octets, uint64_t peer_value, uint8_t protocol, uint8_t transaction, uint8_t version, uint8_t profile) {
+    fill(record, sizeof record);
+    return catkhize_receiver_new(record, octets, 0, 34, peer_value, protocol, 1, transaction, version, profile, 100, 0) == refusal
+        && untouched(record, sizeof record);
+}
+
+/* What the making of a receiver is refused with: 256, 258, 30, 31, 64, 1, 6/1, each before the next. */
+static void test_receiver_refused(void) {
+    const size_t all = sizeof record;
+    unsigned profile;
+    size_t i;
+    for (i = 0; i < sizeof neither; i++) {
+        CHECK(refuses_receiver(CATKHIZE_REFUSED_BUFFER_TOO_SHORT, all - 1, 0, 3, 8, 0, neither[i]));
+        CHECK(refuses_receiver(CATKHIZE_REFUSED_NUMBER_NAMES_NONE, all, 0, 3, 8, 0, neither[i]));
+        CHECK(refuses_receiver(CATKHIZE_REFUSED_IDENTITY, all, 0, CATKHIZE_PROTOCOL_OTHER, 8, 0, neither[i]));
+        CHECK(refuses_receiver(CATKHIZE_REFUSED_SERVICE, all, 5, CATKHIZE_PROTOCOL_OTHER, 8, 0, neither[i]));
+        CHECK(refuses_receiver(CATKHIZE_REFUSED_PROFILE, all, 5, CATKHIZE_PROTOCOL_SEGMENTED, 8, 0, neither[i]));
+        CHECK(refuses_receiver(CATKHIZE_REFUSED_PROFILE, all, 5, CATKHIZE_PROTOCOL_SEGMENTED, 8, 1, neither[i]));
+        CHECK(refuses_receiver(CATKHIZE_REFUSED_PROFILE, all, 5, CATKHIZE_PROTOCOL_SEGMENTED, 2, 0, neither[i]));
+    }
+    CHECK(refuses_receiver(CATKHIZE_REFUSED_VERSION, all, 5, CATKHIZE_PROTOCOL_SEGMENTED, 8, 0, own->number));
+    CHECK(refuses_receiver(CATKHIZE_REFUSED_FIELD_TRANSACTION_ID, all, 5, CATKHIZE_PROTOCOL_SEGMENTED, 8, 1, own->number));
+    for (profile = 0; profile < 256; profile++) {
+        const int known = profile == CATKHIZE_PROFILE_1 || profile == CATKHIZE_PROFILE_2;
+        CHECK(refuses_receiver(CATKHIZE_REFUSED_PROFILE, all, 5, CATKHIZE_PROTOCOL_SEGMENTED, 2, 1, (uint8_t)profile) != known);
+    }
+}
+
+static uint8_t longer[CATKHIZE_SENDER_OCTETS + 8u];
+static uint8_t expected_octets[sizeof longer];
+
+/* A receiver in octets, in a buffer with octets to spare: a new one, and one that holds a Begin and the End. */
+static void test_receiver_octets(void) {
+    const size_t all = 3931 + 8;
+    uint8_t begin[CATKHIZE_SEGMENT_OCTETS], end[CATKHIZE_SEGMENT_OCTETS];
+    fill(store, sizeof store);
+    fill(longer, sizeof longer);
+    CHECK(catkhize_receiver_new(longer, all, 7, 34, 0x203040506u, CATKHIZE_PROTOCOL_CARRIER_SPECIFIC, 0xc1, 2, 6, own->number, 65279, 0x99aabbccddeeu)
+        == CATKHIZE_DONE);
+    fill(expected_octets, sizeof expected_octets);
+    memset(expected_octets, 0, 3931);
+    expected_octets[0] = 2;
+    expected_octets[1] = 7;
+    expected_octets[2] = 34;
+    catkhize_put64(expected_octets + 3, 0x203040506u);
+    expected_octets[11] = 1;
+    expected_octets[12] = 0xc1;
+    expected_octets[13] = 2;
+    expected_octets[14] = 6;
+    expected_octets[15] = own->number;
+    catkhize_put64(expected_octets + 16, 65279);
+    catkhize_put64(expected_octets + 51, 0x99aabbccddeeu);
+    CHECK(memcmp(longer, expected_octets, sizeof longer) == 0);
+
+    begin_of(begin, 2, CATKHIZE_WINDOW_EVERY8);
+    begin[CATKHIZE_SEGMENT_AT_LENGTH_STATED] = 1;
+    catkhize_put16(begin + CATKHIZE_SEGMENT_AT_LENGTH, 0x123);
+    segment_of(end, 2, 2, CATKHIZE_KIND_END);
+    CHECK(catkhize_receiver_receive(longer, all, store, sizeof store, output, sizeof output, 7, 34, 0x203040506u, 1, 0xc1, begin, sizeof begin, message, 1,
+              0, 0x99aabbccddeeu, answer, sizeof answer)
+        == CATKHIZE_DONE);
+    CHECK(catkhize_receiver_receive(longer, all, store, sizeof store, output, sizeof output, 7, 34, 0x203040506u, 1, 0xc1, end, sizeof end, message + 4, 3,
+              0, 0x99aabbccddefu, answer, sizeof answer)
+        == CATKHIZE_DONE);
+    expected_octets[24] = CATKHIZE_RECEIVER_RECEIVING;
+    expected_octets[27] = CATKHIZE_WINDOW_EVERY8;
+    expected_octets[29] = 1;
+    expected_octets[30] = 2;
+    expected_octets[31] = 1;
+    catkhize_put16(expected_octets + 32, 0x123);
+    catkhize_put64(expected_octets + 34, 4);
+    expected_octets[42] = 1;
+    catkhize_put64(expected_octets + 43, 0x99aabbccddefu + own->receiver_waits);
+    catkhize_put64(expected_octets + 51, 0x99aabbccddefu);
+    catkhize_put64(expected_octets + 59, 0x5u);
+    catkhize_put16(expected_octets + 91, 1);
+    catkhize_put16(expected_octets + 91 + 4, 3);
+    memcpy(expected_octets + 603, begin + 2, 13);
+    memcpy(expected_octets + 603 + 26, end + 2, 13);
+    CHECK(memcmp(longer, expected_octets, sizeof longer) == 0);
+}
+
+static uint64_t receiver_deadline(void) {
+    return record[CATKHIZE_RECEIVER_AT_DEADLINE_RUNS] == 1 ? catkhize_get64(record + CATKHIZE_RECEIVER_AT_DEADLINE) : 0;
+}
+
+static uint32_t advance(uint64_t reading) {
+    fill(answer, sizeof answer);
+    return catkhize_receiver_advance(record, sizeof record, store, sizeof store, reading, answer, sizeof answer);
+}
+
+/* A receiver that has a Begin under a window since the reading 1000. */
+static void begun_receiver(uint8_t window) {
+    uint8_t segment[CATKHIZE_SEGMENT_OCTETS];
+    new_receiver(500);
+    CHECK(receiver_deadline() == 0);
+    begin_of(segment, 2, window);
+    CHECK(receive(segment, message, 1, 1000) == CATKHIZE_DONE && receiver_deadline() == 1000 + own->receiver_waits);
+}
+
+/* The receiver's own interval: after a Begin, a repeat, another segment, one that a train brings, and one after a timeout answer. At the deadline
+ * and past it. */
+static void test_receiver_waits(void) {
+    static const uint8_t octets[4] = {0x0a, 0x02, 0x01, 0x41};
+    static const uint8_t lengths[2] = {0, 4};
+    const uint64_t waits = own->receiver_waits;
+    uint8_t begin[CATKHIZE_SEGMENT_OCTETS], segment[CATKHIZE_SEGMENT_OCTETS];
+    begin_of(begin, 2, CATKHIZE_WINDOW_EVERY16);
+    segment_of(segment, 2, 1, CATKHIZE_KIND_CONTINUE);
+    begun_receiver(CATKHIZE_WINDOW_EVERY16);
+    CHECK(receive(begin, message, 1, 1001) == CATKHIZE_DONE && receiver_deadline() == 1001 + waits);
+    CHECK(receive(segment, message, 2, 1003) == CATKHIZE_DONE && receiver_deadline() == 1003 + waits);
+    CHECK(receive(segment, message, 2, 1007) == CATKHIZE_DONE && receiver_deadline() == 1007 + waits);
+    fill(answer, sizeof answer);
+    CHECK(catkhize_receiver_train(record, sizeof record, store, sizeof store, output, sizeof output, PEER, PROTOCOL, octets, sizeof octets, lengths,
+              sizeof lengths, 1010, answer, sizeof answer)
+        == CATKHIZE_DONE);
+    CHECK(catkhize_get64(answer) == 1 && receiver_deadline() == 1010 + waits);
+    CHECK(advance(1009 + waits) == CATKHIZE_DONE && zero(answer, CATKHIZE_REPLY_OCTETS) && receiver_deadline() == 1010 + waits);
+    CHECK(advance(1010 + waits) == CATKHIZE_DONE && says(answer, CATKHIZE_STATUS_INTER_SEGMENT_TIMEOUT, 4, 1, 3) && receiver_deadline() == 0);
+    CHECK(receive(segment, message, 2, 2000 + waits) == CATKHIZE_DONE && receiver_deadline() == 2000 + 2 * waits);
+    CHECK(record[CATKHIZE_RECEIVER_AT_PROFILE] == own->number);
+
+    /* A segment at the deadline is taken; past it receiving gives 37, or under Prohibited 38, and the receiver has expired. */
+    begun_receiver(CATKHIZE_WINDOW_EVERY16);
+    CHECK(receive(segment, message, 2, 1000 + waits) == CATKHIZE_DONE && receiver_deadline() == 1000 + 2 * waits);
+    remember();
+    CHECK(receive(segment, message, 2, 1001 + 2 * waits) == CATKHIZE_REFUSED_TIMER_DUE && untouched(answer, sizeof answer) && as_before());
+    begun_receiver(CATKHIZE_WINDOW_PROHIBITED);
+    CHECK(receive(segment, message, 2, 1000 + waits) == CATKHIZE_DONE && receiver_deadline() == 1000 + 2 * waits);
+    CHECK(receive(segment, message, 2, 1001 + 2 * waits) == CATKHIZE_REFUSED_CLOSED && untouched(answer, sizeof answer));
+    CHECK(record[CATKHIZE_RECEIVER_AT_STATE] == CATKHIZE_RECEIVER_EXPIRED && receiver_deadline() == 0 && zero(store, CATKHIZE_STORE_OCTETS));
+    begun_receiver(CATKHIZE_WINDOW_PROHIBITED);
+    CHECK(advance(999 + waits) == CATKHIZE_DONE && record[CATKHIZE_RECEIVER_AT_STATE] == CATKHIZE_RECEIVER_RECEIVING);
+    CHECK(advance(1000 + waits) == CATKHIZE_DONE && record[CATKHIZE_RECEIVER_AT_STATE] == CATKHIZE_RECEIVER_EXPIRED);
+    CHECK(zero(answer, CATKHIZE_REPLY_OCTETS) && record[CATKHIZE_RECEIVER_AT_PROFILE] == own->number);
+}
+
+/* The last reading from which the receiver's own interval fits, and 34 one past it: for a Begin, a repeat, the End and a train. */
+static void test_receiver_latest(void) {
+    static const uint8_t octets[4] = {0x12, 0x01, 0x01, 0x41};
+    static const uint8_t lengths[2] = {0, 4};
+    const uint64_t latest = UINT64_MAX - own->receiver_waits;
+    uint8_t begin[CATKHIZE_SEGMENT_OCTETS], end[CATKHIZE_SEGMENT_OCTETS];
+    begin_of(begin, 2, CATKHIZE_WINDOW_LAST);
+    segment_of(end, 2, 1, CATKHIZE_KIND_END);
+    new_receiver(latest);
+    remember();
+    CHECK(receive(begin, message, 1, latest + 1) == CATKHIZE_REFUSED_TIME_OVERFLOW && untouched(answer, sizeof answer) && as_before());
+    CHECK(receive(begin, message, 1, latest) == CATKHIZE_DONE && receiver_deadline() == UINT64_MAX);
+    remember();
+    CHECK(receive(begin, message, 1, latest + 1) == CATKHIZE_REFUSED_TIME_OVERFLOW && untouched(answer, sizeof answer) && as_before());
+    CHECK(receive(begin, message, 1, latest) == CATKHIZE_DONE && receiver_deadline() == UINT64_MAX);
+    CHECK(receive(end, message, 1, latest + 1) == CATKHIZE_REFUSED_TIME_OVERFLOW && untouched(answer, sizeof answer) && as_before());
+    fill(answer, sizeof answer);
+    CHECK(catkhize_receiver_train(record, sizeof record, store, sizeof store, output, sizeof output, PEER, PROTOCOL, octets, sizeof octets, lengths,
+              sizeof lengths, latest + 1, answer, sizeof answer)
+        == CATKHIZE_REFUSED_TIME_OVERFLOW);
+    CHECK(zero(answer, CATKHIZE_TRAIN_OCTETS) && as_before());
+    CHECK(receive(end, message, 1, latest) == CATKHIZE_DONE && record[CATKHIZE_RECEIVER_AT_STATE] == CATKHIZE_RECEIVER_COMPLETE);
+    CHECK(receive(end, message, 1, latest + 1) == CATKHIZE_REFUSED_TIME_OVERFLOW);
+}
+
+/* receive and train refuse the record so, with these lengths and this reading, and record, store and output are as they were. */
+static int takes_refuse(uint32_t refusal, size_t record_octets, size_t store_octets, size_t output_octets, uint64_t reading) {
+    static const uint8_t octets[4] = {0x02, 0x00, 0x01, 0x41};
+    static const uint8_t lengths[2] = {0, 4};
+    uint8_t segment[CATKHIZE_SEGMENT_OCTETS];
+    int one, train;
+    segment_of(segment, 2, 0, CATKHIZE_KIND_BEGIN);
+    fill(output, sizeof output);
+    fill(answer, sizeof answer);
+    one = catkhize_receiver_receive(record, record_octets, store, store_octets, output, output_octets, PEER, PROTOCOL, segment, sizeof segment, octets + 3,
+              1, 0, reading, answer, sizeof answer)
+            == refusal
+        && untouched(answer, sizeof answer) && as_before();
+    train = catkhize_receiver_train(record, record_octets, store, store_octets, output, output_octets, PEER, PROTOCOL, octets, sizeof octets, lengths,
+                sizeof lengths, reading, answer, sizeof answer)
+            == refusal
+        && (CATKHIZE_IS_OWN_REFUSAL(refusal) ? untouched(answer, sizeof answer) : zero(answer, CATKHIZE_TRAIN_OCTETS)) && as_before();
+    return one && train && untouched(output, sizeof output);
+}
+
+/* The same of advance, cancel and release. */
+static int others_refuse(uint32_t refusal, size_t record_octets, size_t store_octets, uint64_t reading) {
+    fill(answer, sizeof answer);
+    return catkhize_receiver_advance(record, record_octets, store, store_octets, reading, answer, sizeof answer) == refusal
+        && catkhize_receiver_cancel(record, record_octets, store, store_octets, reading) == refusal
+        && catkhize_receiver_release(record, record_octets, store, store_octets, reading) == refusal && untouched(answer, sizeof answer) && as_before();
+}
+
+/* A receiver of neither profile, whose last reading is after 999: 62 from every call, behind 60 and 61 and before 33, and nothing is changed. A train of
+ * no segments asks nothing. With its own profile the same record gets 33. */
+static void receiver_of_neither(void) {
+    const size_t all = sizeof record, room = sizeof store, space = sizeof output;
+    const uint64_t now = catkhize_get64(record + CATKHIZE_RECEIVER_AT_LAST_READING);
+    size_t i;
+    CHECK(record[CATKHIZE_RECEIVER_AT_PROFILE] == own->number);
+    for (i = 0; i < sizeof neither; i++) {
+        record[CATKHIZE_RECEIVER_AT_PROFILE] = neither[i];
+        remember();
+        CHECK(takes_refuse(CATKHIZE_REFUSED_IMPOSSIBLE_STATE, all, room, space, now));
+        CHECK(others_refuse(CATKHIZE_REFUSED_IMPOSSIBLE_STATE, all, room, now));
+        CHECK(takes_refuse(CATKHIZE_REFUSED_IMPOSSIBLE_STATE, all, room, space, 999));
+        CHECK(others_refuse(CATKHIZE_REFUSED_IMPOSSIBLE_STATE, all, room, 999));
+        CHECK(takes_refuse(CATKHIZE_REFUSED_OUTPUT_TOO_SHORT, all, room, space - 1, 999));
+        CHECK(takes_refuse(CATKHIZE_REFUSED_STORE_TOO_SHORT, all, CATKHIZE_STORE_OCTETS - 1u, space - 1, 999));
+        CHECK(others_refuse(CATKHIZE_REFUSED_STORE_TOO_SHORT, all, CATKHIZE_STORE_OCTETS - 1u, 999));
+        CHECK(take_train(message, 0, message, 0) == CATKHIZE_DONE && zero(answer, CATKHIZE_TRAIN_OCTETS) && as_before());
+    }
+    record[CATKHIZE_RECEIVER_AT_PROFILE] = own->number;
+    remember();
+    CHECK(takes_refuse(CATKHIZE_REFUSED_CLOCK_REGRESSION, all, room, space, 999) && others_refuse(CATKHIZE_REFUSED_CLOCK_REGRESSION, all, room, 999));
+}
+
+static void test_receiver_neither(void) {
+    uint8_t begin[CATKHIZE_SEGMENT_OCTETS], end[CATKHIZE_SEGMENT_OCTETS];
+    begin_of(begin, 2, CATKHIZE_WINDOW_LAST);
+    segment_of(end, 2, 1, CATKHIZE_KIND_END);
+    new_receiver(1000);
+    receiver_of_neither();
+    begun_receiver(CATKHIZE_WINDOW_LAST);
+    receiver_of_neither();
+    CHECK(catkhize_receiver_cancel(record, sizeof record, store, sizeof store, 1000) == CATKHIZE_DONE);
+    receiver_of_neither();
+    complete_receiver(begin, end);
+    receiver_of_neither();
+    CHECK(release(2000) == CATKHIZE_DONE);
+}
+
+/* Makes a record one of the layout before 2026-11: its version is 1, and it has no profile. The octet behind it is A5. */
+static void make_former(uint8_t *octets, size_t count, size_t profile_at) {
+    octets[0] = 1;
+    memmove(octets + profile_at, octets + profile_at + 1, count - profile_at - 1);
+    octets[count - 1] = FILLING;
+}
+
+/* Other versions of the layout, and a record of the one before: 257 from every call, in a buffer of the former size 256. */
+static void test_receiver_former(void) {
+    static const uint8_t versions[5] = {0, 1, 3, 130, 255};
+    const size_t all = sizeof record, room = sizeof store, space = sizeof output;
+    size_t i;
+    begun_receiver(CATKHIZE_WINDOW_LAST);
+    for (i = 0; i < sizeof versions; i++) {
+        record[0] = versions[i];
+        remember();
+        CHECK(takes_refuse(CATKHIZE_REFUSED_BUFFER_SPELLS_NONE, all, 0, 0, 0) && others_refuse(CATKHIZE_REFUSED_BUFFER_SPELLS_NONE, all, 0, 0));
+    }
+    make_former(record, sizeof record, CATKHIZE_RECEIVER_AT_PROFILE);
+    remember();
+    CHECK(takes_refuse(CATKHIZE_REFUSED_BUFFER_SPELLS_NONE, all, room, space, 1000) && others_refuse(CATKHIZE_REFUSED_BUFFER_SPELLS_NONE, all, room, 1000));
+    CHECK(takes_refuse(CATKHIZE_REFUSED_BUFFER_TOO_SHORT, 3930, room, space, 1000) && others_refuse(CATKHIZE_REFUSED_BUFFER_TOO_SHORT, 3930, room, 1000));
+}
+
 #define NUMBER 77u
 
 static uint32_t submission(void) {
@@ -833,7 +1123,8 @@ static uint32_t submission(void) {
 /* A sender of a plan of the message. */
 static void open_sender(const uint8_t *of) {
     fill(sender, sizeof sender);
-    CHECK(catkhize_sender_new(sender, sizeof sender, PEER, PROTOCOL, of, CATKHIZE_PLAN_OCTETS, message, 7, 1, NUMBER, 0) == CATKHIZE_DONE);
+    CHECK(catkhize_sender_new(sender, sizeof sender, PEER, PROTOCOL, of, CATKHIZE_PLAN_OCTETS, message, 7, 1, own->number, NUMBER, 0) == CATKHIZE_DONE);
+    CHECK(sender[CATKHIZE_SENDER_AT_PROFILE] == own->number);
     CHECK(sender[CATKHIZE_SENDER_AT_STATE] == CATKHIZE_SENDER_PREPARED);
 }
 
@@ -847,7 +1138,7 @@ static void plan_exceptions(void) {
     CHECK(catkhize_plan_message(message, 7, 6, 2, CATKHIZE_WINDOW_LAST, 1, 6, plan, sizeof plan) == CATKHIZE_DONE);
     plan[CATKHIZE_PLAN_AT_WINDOW] = CATKHIZE_WINDOW_EXCEPTIONS;
     fill(sender, sizeof sender);
-    CHECK(catkhize_sender_new(sender, sizeof sender, PEER, PROTOCOL, plan, sizeof plan, message, 7, 1, NUMBER, 0) == CATKHIZE_REFUSED_PLAN);
+    CHECK(catkhize_sender_new(sender, sizeof sender, PEER, PROTOCOL, plan, sizeof plan, message, 7, 1, own->number, NUMBER, 0) == CATKHIZE_REFUSED_PLAN);
     CHECK(untouched(sender, sizeof sender));
     take_heads(3);
     fill(frozen, sizeof frozen);
@@ -876,8 +1167,8 @@ static void test_sender(void) {
     uint64_t count;
     new_sender(CATKHIZE_WINDOW_LAST);
     fill(sender, sizeof sender);
-    CHECK(catkhize_sender_new(sender, sizeof sender, PEER, PROTOCOL, plan, sizeof plan, message, 6, 1, NUMBER, 0) == CATKHIZE_REFUSED_PLAN);
-    CHECK(catkhize_sender_new(sender, sizeof sender, PEER, PROTOCOL, plan, sizeof plan - 1, message, 7, 1, NUMBER, 0) == CATKHIZE_REFUSED_BUFFER_TOO_SHORT);
+    CHECK(catkhize_sender_new(sender, sizeof sender, PEER, PROTOCOL, plan, sizeof plan, message, 6, 1, own->number, NUMBER, 0) == CATKHIZE_REFUSED_PLAN);
+    CHECK(catkhize_sender_new(sender, sizeof sender, PEER, PROTOCOL, plan, sizeof plan - 1, message, 7, 1, own->number, NUMBER, 0) == CATKHIZE_REFUSED_BUFFER_TOO_SHORT);
     CHECK(untouched(sender, sizeof sender));
     new_sender(CATKHIZE_WINDOW_LAST);
     CHECK(catkhize_get64(plan + CATKHIZE_PLAN_AT_COUNT) == 3);
@@ -919,7 +1210,7 @@ static void test_sender_ends(void) {
     new_sender(CATKHIZE_WINDOW_PROHIBITED);
     CHECK(catkhize_sender_submitted(sender, sizeof sender, NUMBER, 0, 5, 5, state, sizeof state) == CATKHIZE_DONE);
     fill(state, sizeof state);
-    CHECK(catkhize_sender_accepted(sender, sizeof sender, NUMBER, 0, 330005, state, sizeof state) == CATKHIZE_REFUSED_STALE_SUBMISSION);
+    CHECK(catkhize_sender_accepted(sender, sizeof sender, NUMBER, 0, 5 + own->sender_waits, state, sizeof state) == CATKHIZE_REFUSED_STALE_SUBMISSION);
     CHECK(untouched(state, sizeof state) && sender[CATKHIZE_SENDER_AT_STATE] == CATKHIZE_SENDER_FAILED);
 
     plan_exceptions();
@@ -929,7 +1220,7 @@ static void test_sender_ends(void) {
     CHECK(catkhize_sender_advance(sender, sizeof sender, 100, state, 3) == CATKHIZE_REFUSED_BUFFER_TOO_SHORT);
     sender[0] = 0;
     CHECK(catkhize_sender_advance(sender, sizeof sender, 100, state, sizeof state) == CATKHIZE_REFUSED_BUFFER_SPELLS_NONE);
-    sender[0] = CATKHIZE_LAYOUT_VERSION;
+    sender[0] = CATKHIZE_SENDER_LAYOUT_VERSION;
     CHECK(catkhize_sender_cancel(sender, sizeof sender, 100, state, sizeof state) == CATKHIZE_DONE && state[0] == CATKHIZE_SENDER_CANCELLED);
 }
 
@@ -952,13 +1243,13 @@ static void exceptions_complete(void) {
     CHECK(catkhize_get64(answer + CATKHIZE_RECEPTION_AT_MESSAGE_OCTETS) == 7);
     CHECK(memcmp(output, message, 7) == 0 && untouched(output + 7, sizeof output - 7));
     CHECK(submission() == CATKHIZE_NOTHING);
-    CHECK(catkhize_sender_advance(sender, sizeof sender, 330009, state, sizeof state) == CATKHIZE_DONE);
+    CHECK(catkhize_sender_advance(sender, sizeof sender, 9 + own->sender_waits, state, sizeof state) == CATKHIZE_DONE);
     CHECK(state[0] == CATKHIZE_SENDER_AWAITING_RESPONSE);
-    CHECK(catkhize_sender_advance(sender, sizeof sender, 330010, state, sizeof state) == CATKHIZE_DONE);
+    CHECK(catkhize_sender_advance(sender, sizeof sender, 10 + own->sender_waits, state, sizeof state) == CATKHIZE_DONE);
     CHECK(state[0] == CATKHIZE_SENDER_COMPLETE && state[CATKHIZE_STATE_AT_COMPLETION] == CATKHIZE_COMPLETE_EXCEPTION_INTERVAL_ELAPSED);
 }
 
-/* A frozen train under Exceptions; and a sender that a library before 2026-09 made of a planned one, which goes on. */
+/* A frozen train under Exceptions; and a sender whose record has a planned one, which goes on. */
 static void test_sender_exceptions(void) {
     plan_exceptions();
     open_sender(frozen);
@@ -969,10 +1260,10 @@ static void test_sender_exceptions(void) {
 
     /* Of an even plan under Exceptions no sender is made either. */
     CHECK(catkhize_plan_even(eight, 8, 6, 2, CATKHIZE_WINDOW_LAST, 1, 6, plan, sizeof plan) == CATKHIZE_DONE);
-    CHECK(catkhize_sender_new(sender, sizeof sender, PEER, PROTOCOL, plan, sizeof plan, eight, 8, 1, NUMBER, 0) == CATKHIZE_DONE);
+    CHECK(catkhize_sender_new(sender, sizeof sender, PEER, PROTOCOL, plan, sizeof plan, eight, 8, 1, own->number, NUMBER, 0) == CATKHIZE_DONE);
     plan[CATKHIZE_PLAN_AT_WINDOW] = CATKHIZE_WINDOW_EXCEPTIONS;
     fill(sender, sizeof sender);
-    CHECK(catkhize_sender_new(sender, sizeof sender, PEER, PROTOCOL, plan, sizeof plan, eight, 8, 1, NUMBER, 0) == CATKHIZE_REFUSED_PLAN);
+    CHECK(catkhize_sender_new(sender, sizeof sender, PEER, PROTOCOL, plan, sizeof plan, eight, 8, 1, own->number, NUMBER, 0) == CATKHIZE_REFUSED_PLAN);
     CHECK(untouched(sender, sizeof sender));
 }
 
@@ -984,16 +1275,16 @@ static void test_sender_even(void) {
     for (later = 1; later <= 4; later += 3) {
         catkhize_put64(plan + CATKHIZE_PLAN_AT_LATER_CAPACITY, later);
         fill(sender, sizeof sender);
-        CHECK(catkhize_sender_new(sender, sizeof sender, PEER, PROTOCOL, plan, sizeof plan, eight, 8, 1, NUMBER, 0) == CATKHIZE_REFUSED_PLAN);
+        CHECK(catkhize_sender_new(sender, sizeof sender, PEER, PROTOCOL, plan, sizeof plan, eight, 8, 1, own->number, NUMBER, 0) == CATKHIZE_REFUSED_PLAN);
         CHECK(untouched(sender, sizeof sender));
     }
     catkhize_put64(plan + CATKHIZE_PLAN_AT_LATER_CAPACITY, 3); /* plan_message's */
     fill(sender, sizeof sender);
-    CHECK(catkhize_sender_new(sender, sizeof sender, PEER, PROTOCOL, plan, sizeof plan, eight, 8, 1, NUMBER, 0) == CATKHIZE_DONE);
+    CHECK(catkhize_sender_new(sender, sizeof sender, PEER, PROTOCOL, plan, sizeof plan, eight, 8, 1, own->number, NUMBER, 0) == CATKHIZE_DONE);
     fill(plan, sizeof plan);
     CHECK(catkhize_plan_even(eight, 8, 6, 2, CATKHIZE_WINDOW_PROHIBITED, 1, 6, plan, sizeof plan) == CATKHIZE_DONE);
     fill(sender, sizeof sender);
-    CHECK(catkhize_sender_new(sender, sizeof sender, PEER, PROTOCOL, plan, sizeof plan, eight, 8, 1, NUMBER, 0) == CATKHIZE_DONE);
+    CHECK(catkhize_sender_new(sender, sizeof sender, PEER, PROTOCOL, plan, sizeof plan, eight, 8, 1, own->number, NUMBER, 0) == CATKHIZE_DONE);
     CHECK(sender[CATKHIZE_SENDER_AT_STATE] == CATKHIZE_SENDER_PREPARED);
     for (ticket = 0; ticket < 4; ticket++) {
         CHECK(submission() == CATKHIZE_DONE);
@@ -1039,6 +1330,7 @@ static void sent_as(const uint8_t *of, const uint8_t *train, size_t train_octets
               10, state, sizeof state)
         == CATKHIZE_DONE);
     CHECK(state[0] == CATKHIZE_SENDER_COMPLETE && state[CATKHIZE_STATE_AT_COMPLETION] == CATKHIZE_COMPLETE_PEER_RECEIVED);
+    CHECK(record[CATKHIZE_RECEIVER_AT_PROFILE] == own->number && sender[CATKHIZE_SENDER_AT_PROFILE] == own->number);
 }
 
 /* Plans that were converted, sent and received to their end. */
@@ -1054,7 +1346,362 @@ static void test_sender_converted(void) {
     sent_as(converted, short_train, sizeof short_train);
 }
 
+/* Making a sender of the plan is refused so, and the record is as it was. */
+static int refuses_sender(uint32_t refusal, size_t octets, uint64_t peer_value, uint8_t protocol, size_t message_octets, uint8_t version, uint8_t profile) {
+    fill(sender, sizeof sender);
+    return catkhize_sender_new(sender, octets, 0, 34, peer_value, protocol, 1, plan, sizeof plan, message, message_octets, version, profile, NUMBER, 0)
+            == refusal
+        && untouched(sender, sizeof sender);
+}
+
+/* What the making of a sender is refused with: 256, 257, 258, 30, 31, 64, 40, 1, each before the next. */
+static void test_sender_refused(void) {
+    const size_t all = sizeof sender;
+    unsigned profile;
+    size_t i;
+    CHECK(catkhize_plan_message(message, 7, 6, 2, CATKHIZE_WINDOW_LAST, 1, 6, plan, sizeof plan) == CATKHIZE_DONE);
+    for (i = 0; i < sizeof neither; i++) {
+        plan[0] = 2;
+        CHECK(refuses_sender(CATKHIZE_REFUSED_BUFFER_TOO_SHORT, all - 1, 0, 3, 6, 0, neither[i]));
+        CHECK(refuses_sender(CATKHIZE_REFUSED_BUFFER_SPELLS_NONE, all, 0, 3, 6, 0, neither[i]));
+        plan[0] = CATKHIZE_PLAN_LAYOUT_VERSION;
+        CHECK(refuses_sender(CATKHIZE_REFUSED_NUMBER_NAMES_NONE, all, 0, 3, 6, 0, neither[i]));
+        CHECK(refuses_sender(CATKHIZE_REFUSED_IDENTITY, all, 0, CATKHIZE_PROTOCOL_OTHER, 6, 0, neither[i]));
+        CHECK(refuses_sender(CATKHIZE_REFUSED_SERVICE, all, 5, CATKHIZE_PROTOCOL_OTHER, 6, 0, neither[i]));
+        CHECK(refuses_sender(CATKHIZE_REFUSED_PROFILE, all, 5, CATKHIZE_PROTOCOL_SEGMENTED, 6, 0, neither[i]));
+        CHECK(refuses_sender(CATKHIZE_REFUSED_PROFILE, all, 5, CATKHIZE_PROTOCOL_SEGMENTED, 6, 1, neither[i]));
+        CHECK(refuses_sender(CATKHIZE_REFUSED_PROFILE, all, 5, CATKHIZE_PROTOCOL_SEGMENTED, 7, 0, neither[i]));
+    }
+    CHECK(refuses_sender(CATKHIZE_REFUSED_PLAN, all, 5, CATKHIZE_PROTOCOL_SEGMENTED, 6, 0, own->number));
+    CHECK(refuses_sender(CATKHIZE_REFUSED_VERSION, all, 5, CATKHIZE_PROTOCOL_SEGMENTED, 7, 0, own->number));
+    for (profile = 0; profile < 256; profile++) {
+        const int known = profile == CATKHIZE_PROFILE_1 || profile == CATKHIZE_PROFILE_2;
+        CHECK(refuses_sender(CATKHIZE_REFUSED_PROFILE, all, 5, CATKHIZE_PROTOCOL_SEGMENTED, 7, 1, (uint8_t)profile) != known);
+    }
+}
+
+/* A response to three segments. */
+static void response_of(uint8_t *response, uint8_t status, uint64_t map) {
+    memset(response, 0, CATKHIZE_RESPONSE_OCTETS);
+    response[CATKHIZE_RESPONSE_AT_TRANSACTION] = 2;
+    response[CATKHIZE_RESPONSE_AT_STATUS] = status;
+    catkhize_put16(response + CATKHIZE_RESPONSE_AT_ENTRIES, 3);
+    catkhize_put64(response + CATKHIZE_RESPONSE_AT_MAP, map);
+}
+
+/* A sender in octets, in a buffer with octets to spare: a new one, and one that was told that segment 1 of 3 is missing. */
+static void test_sender_octets(void) {
+    const uint64_t number = 0x1122334455667788u;
+    uint8_t response[CATKHIZE_RESPONSE_OCTETS], state[CATKHIZE_STATE_OCTETS];
+    uint64_t ticket;
+    CHECK(catkhize_plan_message(message, 7, 6, 2, CATKHIZE_WINDOW_LAST, 1, 6, plan, sizeof plan) == CATKHIZE_DONE);
+    fill(longer, sizeof longer);
+    CHECK(catkhize_sender_new(longer, sizeof longer, 7, 34, 0x203040506u, CATKHIZE_PROTOCOL_CARRIER_SPECIFIC, 0xc1, plan, sizeof plan, message, 7, 6,
+              own->number, number, 100)
+        == CATKHIZE_DONE);
+    fill(expected_octets, sizeof expected_octets);
+    memset(expected_octets, 0, 6131);
+    expected_octets[0] = 2;
+    expected_octets[1] = 7;
+    expected_octets[2] = 34;
+    catkhize_put64(expected_octets + 3, 0x203040506u);
+    expected_octets[11] = 1;
+    expected_octets[12] = 0xc1;
+    expected_octets[13] = 6;
+    expected_octets[14] = own->number;
+    catkhize_put64(expected_octets + 15, number);
+    expected_octets[27] = 1;
+    catkhize_put64(expected_octets + 37, 100);
+    catkhize_put64(expected_octets + 158, 100);
+    memcpy(expected_octets + 174, plan + 1, 5957);
+    CHECK(memcmp(longer, expected_octets, sizeof longer) == 0);
+
+    for (ticket = 0; ticket < 3; ticket++) {
+        const uint64_t queued = 110 + 30 * ticket;
+        CHECK(catkhize_sender_submitted(longer, sizeof longer, number, ticket, queued, queued + 10, state, sizeof state) == CATKHIZE_DONE);
+        CHECK(catkhize_sender_accepted(longer, sizeof longer, number, ticket, queued + 20, state, sizeof state) == CATKHIZE_DONE);
+    }
+    response_of(response, CATKHIZE_STATUS_CONTINUING, 0x5u);
+    CHECK(catkhize_sender_receive_response(longer, sizeof longer, 7, 34, 0x203040506u, 1, 0xc1, response, sizeof response, 0, 200, state, sizeof state)
+        == CATKHIZE_DONE);
+    catkhize_put64(expected_octets + 28, 3);
+    expected_octets[36] = 1;
+    catkhize_put64(expected_octets + 37, 200);
+    catkhize_put64(expected_octets + 45, 3);
+    catkhize_put64(expected_octets + 53, 0x7u);
+    catkhize_put64(expected_octets + 85, 0x2u);
+    catkhize_put64(expected_octets + 117, 0x5u);
+    expected_octets[149] = 1;
+    catkhize_put64(expected_octets + 150, 170 + own->sender_waits);
+    catkhize_put64(expected_octets + 158, 200);
+    catkhize_put64(expected_octets + 166, 3);
+    CHECK(memcmp(longer, expected_octets, sizeof longer) == 0);
+    response_of(response, CATKHIZE_STATUS_ABORTED, 0x5u);
+    CHECK(catkhize_sender_receive_response(longer, sizeof longer, 7, 34, 0x203040506u, 1, 0xc1, response, sizeof response, 0, 200, state, sizeof state)
+        == CATKHIZE_DONE);
+    CHECK(longer[23] == CATKHIZE_SENDER_FAILED && longer[24] == CATKHIZE_FAILED_PEER && longer[25] == 0 && longer[26] == CATKHIZE_STATUS_ABORTED);
+    CHECK(zero(longer + 27, 18) && zero(longer + 149, 9));
+}
+
+static uint64_t sender_deadline(void) {
+    return sender[CATKHIZE_SENDER_AT_DEADLINE_RUNS] == 1 ? catkhize_get64(sender + CATKHIZE_SENDER_AT_DEADLINE) : 0;
+}
+
+static uint32_t submit(uint64_t ticket, uint64_t queued, uint64_t observed) {
+    fill(answer, sizeof answer);
+    return catkhize_sender_submitted(sender, sizeof sender, NUMBER, ticket, queued, observed, answer, sizeof answer);
+}
+
+static uint32_t accept_one(uint64_t ticket, uint64_t reading) {
+    fill(answer, sizeof answer);
+    return catkhize_sender_accepted(sender, sizeof sender, NUMBER, ticket, reading, answer, sizeof answer);
+}
+
+static uint32_t fail_one(uint64_t ticket, uint64_t reading) {
+    fill(answer, sizeof answer);
+    return catkhize_sender_lower_failed(sender, sizeof sender, NUMBER, ticket, CATKHIZE_LOWER_LAYER_TIMED_OUT, 0, reading, answer, sizeof answer);
+}
+
+static uint32_t advance_sender(uint64_t reading) {
+    fill(answer, sizeof answer);
+    return catkhize_sender_advance(sender, sizeof sender, reading, answer, sizeof answer);
+}
+
+static uint32_t respond(uint8_t status, uint64_t map, uint64_t reading) {
+    uint8_t response[CATKHIZE_RESPONSE_OCTETS];
+    response_of(response, status, map);
+    fill(answer, sizeof answer);
+    return catkhize_sender_receive_response(sender, sizeof sender, PEER, PROTOCOL, response, sizeof response, 0, reading, answer, sizeof answer);
+}
+
+static uint8_t sender_before[CATKHIZE_SENDER_OCTETS];
+
+static void remember_sender(void) { memcpy(sender_before, sender, sizeof sender); }
+
+static int sender_as_before(void) { return memcmp(sender, sender_before, sizeof sender) == 0; }
+
+/* The sender has failed for a segment that was too late. */
+static int interval_failed(void) {
+    const uint8_t *state = sender + CATKHIZE_SENDER_AT_STATE;
+    return state[0] == CATKHIZE_SENDER_FAILED && state[CATKHIZE_STATE_AT_FAILURE] == CATKHIZE_FAILED_SEGMENT_INTERVAL && sender_deadline() == 0;
+}
+
+/* Segment index is offered under a ticket, and no deadline runs. */
+static int offers(uint64_t ticket, uint8_t index) {
+    return submission() == CATKHIZE_DONE && catkhize_get64(answer + CATKHIZE_SUBMISSION_AT_TICKET) == ticket
+        && answer[CATKHIZE_SUBMISSION_AT_INDEX] == index && sender_deadline() == 0;
+}
+
+/* The sender's own interval: after each submission from queued on, up to the deadline, at it and past it. */
+static void test_sender_waits(void) {
+    const uint64_t waits = own->sender_waits;
+    new_sender(CATKHIZE_WINDOW_LAST);
+    CHECK(sender_deadline() == 0);
+    CHECK(submit(0, 10, 20) == CATKHIZE_DONE && answer[0] == CATKHIZE_SENDER_AWAITING_ACCEPT && sender_deadline() == 10 + waits);
+    CHECK(accept_one(0, 30) == CATKHIZE_DONE && answer[0] == CATKHIZE_SENDER_PREPARED && sender_deadline() == 10 + waits);
+    CHECK(submit(1, 40, 50) == CATKHIZE_DONE && sender_deadline() == 40 + waits);
+    CHECK(advance_sender(39 + waits) == CATKHIZE_DONE && answer[0] == CATKHIZE_SENDER_AWAITING_ACCEPT && sender_deadline() == 40 + waits);
+    CHECK(advance_sender(40 + waits) == CATKHIZE_DONE && answer[0] == CATKHIZE_SENDER_PREPARED && offers(2, 1));
+    CHECK(sender[CATKHIZE_SENDER_AT_PROFILE] == own->number);
+
+    /* Observed before the deadline, and at it. */
+    new_sender(CATKHIZE_WINDOW_LAST);
+    CHECK(submit(0, 10, 9 + waits) == CATKHIZE_DONE && answer[0] == CATKHIZE_SENDER_AWAITING_ACCEPT && sender_deadline() == 10 + waits);
+    new_sender(CATKHIZE_WINDOW_LAST);
+    CHECK(submit(0, 10, 10 + waits) == CATKHIZE_DONE && answer[0] == CATKHIZE_SENDER_PREPARED && offers(1, 0));
+
+    /* Accepted, and given up. */
+    new_sender(CATKHIZE_WINDOW_LAST);
+    CHECK(submit(0, 10, 20) == CATKHIZE_DONE && accept_one(0, 9 + waits) == CATKHIZE_DONE && sender_deadline() == 10 + waits);
+    new_sender(CATKHIZE_WINDOW_LAST);
+    CHECK(submit(0, 10, 20) == CATKHIZE_DONE && accept_one(0, 10 + waits) == CATKHIZE_REFUSED_STALE_SUBMISSION);
+    CHECK(untouched(answer, sizeof answer) && offers(1, 0));
+    new_sender(CATKHIZE_WINDOW_LAST);
+    CHECK(submit(0, 10, 20) == CATKHIZE_DONE && fail_one(0, 9 + waits) == CATKHIZE_DONE && answer[0] == CATKHIZE_SENDER_FAILED);
+    new_sender(CATKHIZE_WINDOW_LAST);
+    CHECK(submit(0, 10, 20) == CATKHIZE_DONE && fail_one(0, 10 + waits) == CATKHIZE_REFUSED_STALE_SUBMISSION);
+    CHECK(untouched(answer, sizeof answer) && offers(1, 0));
+}
+
+/* The same under Prohibited: the sender fails at the deadline, a segment that is queued there is too late, and the last one has none. */
+static void test_sender_waits_prohibited(void) {
+    const uint64_t waits = own->sender_waits;
+    new_sender(CATKHIZE_WINDOW_PROHIBITED);
+    CHECK(submit(0, 10, 20) == CATKHIZE_DONE && sender_deadline() == 10 + waits);
+    CHECK(advance_sender(9 + waits) == CATKHIZE_DONE && answer[0] == CATKHIZE_SENDER_AWAITING_ACCEPT);
+    CHECK(advance_sender(10 + waits) == CATKHIZE_DONE && answer[0] == CATKHIZE_SENDER_FAILED && interval_failed());
+    CHECK(sender[CATKHIZE_SENDER_AT_PROFILE] == own->number);
+    new_sender(CATKHIZE_WINDOW_PROHIBITED);
+    CHECK(submit(0, 10, 20) == CATKHIZE_DONE && accept_one(0, 30) == CATKHIZE_DONE);
+    CHECK(submit(1, 10 + waits, 11 + waits) == CATKHIZE_REFUSED_RECEIPT_TIME && untouched(answer, sizeof answer) && interval_failed());
+    new_sender(CATKHIZE_WINDOW_PROHIBITED);
+    CHECK(submit(0, 10, 20) == CATKHIZE_DONE && accept_one(0, 30) == CATKHIZE_DONE);
+    CHECK(submit(1, 9 + waits, 11 + waits) == CATKHIZE_DONE && sender_deadline() == 9 + 2 * waits && accept_one(1, 12 + waits) == CATKHIZE_DONE);
+    CHECK(submit(2, 12 + waits, 12 + waits) == CATKHIZE_DONE && sender_deadline() == 0);
+    CHECK(accept_one(2, UINT64_MAX) == CATKHIZE_DONE && answer[0] == CATKHIZE_SENDER_COMPLETE);
+}
+
+/* A sender of a plan of three segments, all of which were queued and accepted at 10. */
+static void sent_all(const uint8_t *of) {
+    uint64_t ticket;
+    open_sender(of);
+    for (ticket = 0; ticket < 3; ticket++) {
+        send_one(ticket);
+    }
+    CHECK(sender[CATKHIZE_SENDER_AT_STATE] == CATKHIZE_SENDER_AWAITING_RESPONSE && sender_deadline() == 10 + own->sender_waits);
+}
+
+/* Responses before the deadline and at it; under Exceptions past it too. */
+static void test_sender_responses(void) {
+    const uint64_t deadline = 10 + own->sender_waits;
+    const uint8_t *state = sender + CATKHIZE_SENDER_AT_STATE;
+    CHECK(catkhize_plan_message(message, 7, 6, 2, CATKHIZE_WINDOW_LAST, 1, 6, plan, sizeof plan) == CATKHIZE_DONE);
+    sent_all(plan);
+    CHECK(respond(CATKHIZE_STATUS_CONTINUING, 0x7u, deadline - 1) == CATKHIZE_DONE && answer[0] == CATKHIZE_SENDER_AWAITING_RESPONSE);
+    CHECK(respond(CATKHIZE_STATUS_CONTINUING, 0x7u, deadline) == CATKHIZE_DONE && answer[0] == CATKHIZE_SENDER_PREPARED && offers(3, 2));
+    sent_all(plan);
+    CHECK(respond(CATKHIZE_STATUS_RECEIVED, 0x7u, deadline) == CATKHIZE_DONE && answer[0] == CATKHIZE_SENDER_COMPLETE);
+    sent_all(plan);
+    CHECK(advance_sender(deadline) == CATKHIZE_DONE && answer[0] == CATKHIZE_SENDER_PREPARED && offers(3, 0));
+
+    plan_exceptions();
+    sent_all(frozen);
+    CHECK(respond(CATKHIZE_STATUS_CONTINUING, 0x7u, deadline - 1) == CATKHIZE_DONE && answer[0] == CATKHIZE_SENDER_AWAITING_RESPONSE);
+    CHECK(respond(CATKHIZE_STATUS_CONTINUING, 0x7u, deadline) == CATKHIZE_DONE);
+    CHECK(state[0] == CATKHIZE_SENDER_COMPLETE && state[CATKHIZE_STATE_AT_COMPLETION] == CATKHIZE_COMPLETE_EXCEPTION_INTERVAL_ELAPSED);
+    sent_all(frozen);
+    CHECK(respond(CATKHIZE_STATUS_CONTINUING, 0x7u, deadline + 1) == CATKHIZE_REFUSED_CLOSED && untouched(answer, sizeof answer));
+    CHECK(state[0] == CATKHIZE_SENDER_COMPLETE && state[CATKHIZE_STATE_AT_COMPLETION] == CATKHIZE_COMPLETE_EXCEPTION_INTERVAL_ELAPSED);
+}
+
+/* The last queued reading from which the sender's own interval fits, and 34 one past it. The last segment under Prohibited sets no deadline and has
+ * no 34. */
+static void test_sender_latest(void) {
+    const uint64_t latest = UINT64_MAX - own->sender_waits;
+    uint64_t ticket;
+    new_sender(CATKHIZE_WINDOW_LAST);
+    remember_sender();
+    CHECK(submit(0, latest + 1, latest + 1) == CATKHIZE_REFUSED_TIME_OVERFLOW && untouched(answer, sizeof answer) && sender_as_before());
+    CHECK(submit(0, UINT64_MAX, UINT64_MAX) == CATKHIZE_REFUSED_TIME_OVERFLOW && untouched(answer, sizeof answer) && sender_as_before());
+    CHECK(submit(0, latest, latest) == CATKHIZE_DONE && answer[0] == CATKHIZE_SENDER_AWAITING_ACCEPT && sender_deadline() == UINT64_MAX);
+    new_sender(CATKHIZE_WINDOW_PROHIBITED);
+    for (ticket = 0; ticket < 2; ticket++) {
+        remember_sender();
+        CHECK(submit(ticket, latest + 1, latest + 1) == CATKHIZE_REFUSED_TIME_OVERFLOW && untouched(answer, sizeof answer) && sender_as_before());
+        CHECK(submit(ticket, latest, latest) == CATKHIZE_DONE && sender_deadline() == UINT64_MAX && accept_one(ticket, latest) == CATKHIZE_DONE);
+    }
+    CHECK(submit(2, UINT64_MAX - 1, UINT64_MAX - 1) == CATKHIZE_DONE && sender_deadline() == 0);
+    CHECK(accept_one(2, UINT64_MAX) == CATKHIZE_DONE && answer[0] == CATKHIZE_SENDER_COMPLETE);
+}
+
+/* Every call but submission refuses the sender so, with so many octets and this reading, and the record is as it was. */
+static int sender_refuses(uint32_t refusal, size_t octets, uint64_t reading) {
+    uint8_t response[CATKHIZE_RESPONSE_OCTETS];
+    response_of(response, CATKHIZE_STATUS_CONTINUING, 0x7u);
+    fill(answer, sizeof answer);
+    return catkhize_sender_advance(sender, octets, reading, answer, sizeof answer) == refusal
+        && catkhize_sender_cancel(sender, octets, reading, answer, sizeof answer) == refusal
+        && catkhize_sender_submitted(sender, octets, NUMBER, 0, reading, reading, answer, sizeof answer) == refusal
+        && catkhize_sender_accepted(sender, octets, NUMBER, 0, reading, answer, sizeof answer) == refusal
+        && catkhize_sender_lower_failed(sender, octets, NUMBER, 0, CATKHIZE_LOWER_LAYER_REJECTED, 9, reading, answer, sizeof answer) == refusal
+        && catkhize_sender_receive_response(sender, octets, PEER, PROTOCOL, response, sizeof response, 0, reading, answer, sizeof answer) == refusal
+        && untouched(answer, sizeof answer) && sender_as_before();
+}
+
+/* A sender of neither profile, at the reading 1000: 62 from every call, behind 257 and 258 and before 33, and nothing is changed; what it offers is as
+ * it was. With its own profile the same record gets 33. */
+static void sender_of_neither(void) {
+    uint8_t response[CATKHIZE_RESPONSE_OCTETS], offer[sizeof answer];
+    uint32_t given;
+    size_t i;
+    CHECK(advance_sender(1000) == CATKHIZE_DONE && sender[CATKHIZE_SENDER_AT_PROFILE] == own->number);
+    given = submission();
+    memcpy(offer, answer, sizeof offer);
+    response_of(response, 14, 0x7u);
+    for (i = 0; i < sizeof neither; i++) {
+        sender[CATKHIZE_SENDER_AT_PROFILE] = neither[i];
+        remember_sender();
+        CHECK(sender_refuses(CATKHIZE_REFUSED_IMPOSSIBLE_STATE, sizeof sender, 1000));
+        CHECK(sender_refuses(CATKHIZE_REFUSED_IMPOSSIBLE_STATE, sizeof sender, 999));
+        CHECK(catkhize_sender_lower_failed(sender, sizeof sender, NUMBER, 0, 3, 9, 999, answer, sizeof answer) == CATKHIZE_REFUSED_NUMBER_NAMES_NONE);
+        CHECK(catkhize_sender_receive_response(sender, sizeof sender, PEER, PROTOCOL, response, sizeof response, 0, 999, answer, sizeof answer)
+            == CATKHIZE_REFUSED_BUFFER_SPELLS_NONE);
+        CHECK(submission() == given && memcmp(answer, offer, sizeof offer) == 0 && sender_as_before());
+    }
+    sender[CATKHIZE_SENDER_AT_PROFILE] = own->number;
+    remember_sender();
+    CHECK(sender_refuses(CATKHIZE_REFUSED_CLOCK_REGRESSION, sizeof sender, 999));
+}
+
+static void test_sender_neither(void) {
+    new_sender(CATKHIZE_WINDOW_LAST);
+    sender_of_neither();
+    new_sender(CATKHIZE_WINDOW_LAST);
+    CHECK(submit(0, 10, 20) == CATKHIZE_DONE && answer[0] == CATKHIZE_SENDER_AWAITING_ACCEPT);
+    sender_of_neither();
+    sent_all(plan);
+    sender_of_neither();
+    CHECK(respond(CATKHIZE_STATUS_RECEIVED, 0x7u, 1000) == CATKHIZE_DONE && answer[0] == CATKHIZE_SENDER_COMPLETE);
+    sender_of_neither();
+    new_sender(CATKHIZE_WINDOW_LAST);
+    CHECK(catkhize_sender_cancel(sender, sizeof sender, 1000, answer, sizeof answer) == CATKHIZE_DONE && answer[0] == CATKHIZE_SENDER_CANCELLED);
+    sender_of_neither();
+}
+
+/* Other versions of the layout, and a record of the one before: 257 from every call, in a buffer of the former size 256. */
+static void test_sender_former(void) {
+    static const uint8_t versions[5] = {0, 1, 3, 130, 255};
+    size_t i;
+    new_sender(CATKHIZE_WINDOW_LAST);
+    for (i = 0; i < sizeof versions; i++) {
+        sender[0] = versions[i];
+        remember_sender();
+        CHECK(sender_refuses(CATKHIZE_REFUSED_BUFFER_SPELLS_NONE, sizeof sender, 0));
+        CHECK(submission() == CATKHIZE_REFUSED_BUFFER_SPELLS_NONE && untouched(answer, sizeof answer) && sender_as_before());
+    }
+    make_former(sender, sizeof sender, CATKHIZE_SENDER_AT_PROFILE);
+    remember_sender();
+    CHECK(sender_refuses(CATKHIZE_REFUSED_BUFFER_SPELLS_NONE, sizeof sender, 0));
+    CHECK(submission() == CATKHIZE_REFUSED_BUFFER_SPELLS_NONE && untouched(answer, sizeof answer) && sender_as_before());
+    CHECK(sender_refuses(CATKHIZE_REFUSED_BUFFER_TOO_SHORT, 6130, 0));
+    CHECK(catkhize_sender_submission(sender, 6130, answer, sizeof answer) == CATKHIZE_REFUSED_BUFFER_TOO_SHORT && untouched(answer, sizeof answer));
+}
+
+/* The machines, of one profile. */
+static void run_machines(void) {
+    test_receiver();
+    test_receiver_time();
+    test_release_refused();
+    test_release();
+    test_figures();
+    test_order_received();
+    test_train();
+    test_train_goes_on();
+    test_train_figures();
+    test_short_answers();
+    test_receiver_refused();
+    test_receiver_octets();
+    test_receiver_waits();
+    test_receiver_latest();
+    test_receiver_neither();
+    test_receiver_former();
+    test_sender();
+    test_sender_ends();
+    test_sender_exceptions();
+    test_sender_even();
+    test_sender_converted();
+    test_sender_refused();
+    test_sender_octets();
+    test_sender_waits();
+    test_sender_waits_prohibited();
+    test_sender_responses();
+    test_sender_latest();
+    test_sender_neither();
+    test_sender_former();
+}
+
 static void run(void) {
+    size_t i;
     test_numbers();
     test_layouts();
     test_encode();
@@ -1068,21 +1715,10 @@ static void run(void) {
     test_convert_refused();
     test_orders();
     test_orders_refused();
-    test_receiver();
-    test_receiver_time();
-    test_release_refused();
-    test_release();
-    test_figures();
-    test_order_received();
-    test_train();
-    test_train_goes_on();
-    test_train_figures();
-    test_short_answers();
-    test_sender();
-    test_sender_ends();
-    test_sender_exceptions();
-    test_sender_even();
-    test_sender_converted();
+    for (i = 0; i < 2; i++) {
+        own = profiles + i;
+        run_machines();
+    }
 }
 
 /* The tests run on a stack of their own, which was filled before. */

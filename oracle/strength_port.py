@@ -1,6 +1,6 @@
 #!/usr/bin/env python3
 """Puts one porting error at a time into a copy of the Rattle crates, compiles the exports without proof, runs the differential driver against them,
-and says which errors the driver finds.
+that of profile 1 and where it finds nothing that of profile 2, and says which errors they find.
 
 strength_port.py [NAMES]   NAMES: the beginnings of names of errors (c01, r, s1); all errors if none is given.
 
@@ -10,7 +10,7 @@ import os, shutil, subprocess, sys, tempfile
 HERE = os.path.dirname(os.path.abspath(__file__))
 REPOSITORY = os.path.dirname(HERE)
 SECONDS = 300
-# Where one round of the driver finds nothing, it runs as many as make a million calls of the machines.
+# Where one round of both drivers finds nothing, they run as many as make more than two million calls of the machines each.
 MORE_ROUNDS = 9
 # The crates that export an entry.
 EXPORTS = ['catkhize', 'train_c']
@@ -433,10 +433,11 @@ error('o01 the last octet uncopied', O, '    while i < n {\n        dst[at + i]'
 error('o02 the last octet of a repeat uncompared', O, '    while i < n {\n        if a[i] != b[i] {', '    while i + 1 < n {\n        if a[i] != b[i] {')
 
 # ---- receiver
-C, M, R, A, G, S2 = ('receiver/src/' + f for f in ('checks.rt', 'machine.rt', 'rules.rt', 'replies.rt', 'lib.rt', 'states.rt'))
+C, M, R, A, S2 = ('receiver/src/' + f for f in ('checks.rt', 'machine.rt', 'rules.rt', 'replies.rt', 'states.rt'))
+PROFILES = 'link/src/profiles.rt'
 H, B = 'receiver/src/faults.rt', 'receiver/src/turns.rt'
-error('r01 the last reading from which a deadline fits', C, 'if LATEST_READING < brought.reading {', 'if LATEST_READING <= brought.reading {')
-error('r02 a wait of 299,999 ms', G, 'const REASSEMBLY_MS: u64 = 300_000;', 'const REASSEMBLY_MS: u64 = 299_999;')
+error('r01 the last reading from which a deadline fits', C, 'if MAX_READING_MS - interval < brought.reading {', 'if MAX_READING_MS - interval <= brought.reading {')
+error('r02 a wait of 299,999 ms', PROFILES, 'const REASSEMBLY_MS: u64 = 300_000;', 'const REASSEMBLY_MS: u64 = 299_999;')
 error('r03 the wipe goes past 65,280', M, 'octets::wipe(store, STORE_OCTETS);', 'octets::wipe(store, store.len());')
 error('r04 the wipe stops at what a slot less holds', M, 'octets::wipe(store, STORE_OCTETS);', 'octets::wipe(store, STORE_OCTETS - 255);')
 error('r05 slots of 256 octets in keep', B, 'octets::put(store, SLOT_OCTETS * sequence as usize, data);', 'octets::put(store, 256 * sequence as usize, data);')
@@ -453,11 +454,11 @@ error('r10 38 of a complete receiver takes no reading', B, '''        let deadli
         let next = timed(progress, deadline, progress.last_monotonic_ms);
         Turn {''')
 error('r11 a repeat moves no deadline', B, '''    if receiving(state) {
-        Deadline::At(reading + REASSEMBLY_MS)''', '''    if crate::states::awaiting(state) {
-        Deadline::At(reading + REASSEMBLY_MS)''')
+        Deadline::At(reading + interval)''', '''    if crate::states::awaiting(state) {
+        Deadline::At(reading + interval)''')
 error('r12 a repeat in Complete sets a deadline', B, '''    if receiving(state) {
-        Deadline::At(reading + REASSEMBLY_MS)''', '''    if !crate::states::awaiting(state) {
-        Deadline::At(reading + REASSEMBLY_MS)''')
+        Deadline::At(reading + interval)''', '''    if !crate::states::awaiting(state) {
+        Deadline::At(reading + interval)''')
 error('r13 a repeat with other data is a repeat', B, 'octets::compare(part(store, SLOT_OCTETS * sequence as usize, n), data)', 'octets::compare(data, data)')
 error('r14 a Continue at 255 is held', R, 'if both(is_continue(kind), sequence == LAST_SEQUENCE) {', 'if both(is_continue(kind), false) {')
 error('r15 kinds before repeats', R, '''    if both(place.held, !place.same) {
@@ -488,10 +489,10 @@ error('r29 34 before 38 and 36', C, '''            if !taking(state) {
             if both(awaiting(state), !is_begin(kind)) {
                 return Check::Refused(ReceiveError::BeginRequired);
             }
-            if LATEST_READING < brought.reading {
+            if MAX_READING_MS - interval < brought.reading {
                 return Check::Refused(ReceiveError::TimeOverflow);
             }''', '''            let kind = segment.kind;
-            if LATEST_READING < brought.reading {
+            if MAX_READING_MS - interval < brought.reading {
                 return Check::Refused(ReceiveError::TimeOverflow);
             }
             if !taking(state) {
@@ -586,18 +587,18 @@ error('r59 a Begin under Exceptions unserved', R, '    if has_crc(crc_in(kind)) 
 # ---- sender
 K, J, U, V, X, Y = ('sender/src/' + f for f in ('checks.rt', 'marks.rt', 'steps.rt', 'turns.rt', 'lib.rt', 'plans.rt'))
 Z = 'sender/src/state.rt'
-error('s01 a wait of 330,001 ms', X, 'const SEGMENT_INTERVAL_MS: u64 = 330_000;', 'const SEGMENT_INTERVAL_MS: u64 = 330_001;')
-error('s02 the last queued reading', K, 'if both(sets, LATEST_QUEUED_MS < queued_monotonic_ms) {', 'if both(sets, LATEST_QUEUED_MS <= queued_monotonic_ms) {')
-error('s03 34 where no deadline is set', K, 'if both(sets, LATEST_QUEUED_MS < queued_monotonic_ms) {', 'if LATEST_QUEUED_MS < queued_monotonic_ms {')
-error('s04 41 before 34', K, '''        if both(sets, LATEST_QUEUED_MS < queued_monotonic_ms) {
+error('s01 a wait of 330,001 ms', PROFILES, 'const SEGMENT_INTERVAL_MS: u64 = 330_000;', 'const SEGMENT_INTERVAL_MS: u64 = 330_001;')
+error('s02 the last queued reading', K, 'if both(sets, latest < queued_monotonic_ms) {', 'if both(sets, latest <= queued_monotonic_ms) {')
+error('s03 34 where no deadline is set', K, 'if both(sets, latest < queued_monotonic_ms) {', 'if latest < queued_monotonic_ms {')
+error('s04 41 before 34', K, '''        if both(sets, latest < queued_monotonic_ms) {
             return Check::Refuse(SenderError::TimeOverflow);
         }
         if MAX_SUBMISSIONS <= self.layer3_submissions {
             return Check::Refuse(SenderError::CounterOverflow);
-        }''', '''        if MAX_SUBMISSIONS <= self.layer3_submissions + 1 {
+        }''', '''        if MAX_SUBMISSIONS <= self.layer3_submissions {
             return Check::Refuse(SenderError::CounterOverflow);
         }
-        if both(sets, LATEST_QUEUED_MS < queued_monotonic_ms) {
+        if both(sets, latest < queued_monotonic_ms) {
             return Check::Refuse(SenderError::TimeOverflow);
         }''')
 error('s05 the number of a token unread', Z, 'Current::Submission(x) => both(own == number, x.ticket == ticket),', 'Current::Submission(x) => x.ticket == ticket,')
@@ -716,6 +717,123 @@ error('s45 a 40 that takes a planned plan under Exceptions', Y, '''    let windo
 error('s46 a 40 that takes no frozen plan under Exceptions', Y, '            is_same_window(given, window)\n', '            !crate::state::is_exceptions(window) && is_same_window(given, window)\n')
 error('s47 62 where a planned plan is under Exceptions', Y, '                    count: p.count,\n', '                    count: if crate::state::is_exceptions(acknowledgment_window) { 0 } else { p.count },\n')
 
+# ---- bench profiles
+RH, SH, RL, SL, PL = ('receiver_image/src/heads.rt', 'sender_image/src/heads.rt', 'receiver_image/src/lib.rt', 'sender_image/src/lib.rt', 'plan_image/src/lib.rt')
+RC, SC, RA, SA = ('receiver_c/src/lib.rt', 'sender_c/src/lib.rt', 'receiver_answers/src/lib.rt', 'sender_answers/src/lib.rt')
+RECEIVER_64 = '''    if !known_profile(terms.profile) {
+        return Check::Refused(ReceiveError::Profile);
+    }
+'''
+SENDER_64 = '''        if !known_profile(profile) {
+            return not_made(SenderError::Profile);
+        }
+'''
+SENDER_1 = '''        if version < PV1 {
+            return not_made(SenderError::Codec(Error::Version));
+        }
+'''
+RECEIVER_62 = 'let bad = impossible(terms, progress, held, &self.lengths, first);'
+UNREAD_62 = 'let bad = impossible(Terms { profile: 1, ..terms }, progress, held, &self.lengths, first);'
+OUTLINE = 'plan.outline(self.terms.profile)'
+error('b01 a receiver with 64 before 31', M, RECEIVER_64, '', also=[('    if !protocol.served() {\n', RECEIVER_64 + '    if !protocol.served() {\n')])
+error('b02 a receiver with 64 before 30', M, RECEIVER_64, '', also=[('    if peer.refused() {\n', RECEIVER_64 + '    if peer.refused() {\n')])
+error('b03 a receiver with 64 behind the codec', M, RECEIVER_64, '', also=[('        Validated::Valid => Check::Passed,\n', '''        Validated::Valid => {
+            if !known_profile(terms.profile) {
+                return Check::Refused(ReceiveError::Profile);
+            }
+            Check::Passed
+        }
+''')])
+error('b04 a receiver of any profile', M, RECEIVER_64, '')
+error('b05 a sender with 64 before 31', X, SENDER_64, '', also=[('        if !protocol.served() {\n', SENDER_64 + '        if !protocol.served() {\n')])
+error('b06 a sender with 64 behind 40', X, SENDER_64, '', also=[(SENDER_1, SENDER_64 + SENDER_1)])
+error('b07 a sender with 64 behind the codec', X, SENDER_64, '', also=[(SENDER_1, SENDER_1 + SENDER_64)])
+error('b08 a sender of any profile', X, SENDER_64, '')
+error('b09 profile 0 known', PROFILES, 'if profile == PROFILE_1 {', 'if profile <= PROFILE_1 {')
+error('b10 profile 3 known', PROFILES, '    profile == PROFILE_2\n', '    profile == PROFILE_2 || profile == 3\n')
+error('b11 profiles from 2 on known', PROFILES, '    profile == PROFILE_2\n', '    PROFILE_2 <= profile\n')
+error('b12 profile 2 unknown', PROFILES, '    profile == PROFILE_2\n', '    false\n')
+error('b13 a receiver with no 62 by the profile', H, '    !known_profile(terms.profile)\n', '    false\n')
+error('b14 a receiver of profile 2 is impossible', H, '    !known_profile(terms.profile)\n', '    terms.profile != 1\n')
+error('b15 an advance that does not read the profile', M, RECEIVER_62, UNREAD_62)
+error('b16 a cancel and a release that do not read the profile', M, RECEIVER_62, UNREAD_62, 1)
+error('b17 a receive that does not read the profile', M, RECEIVER_62, UNREAD_62, 2)
+error('b18 62 by the profile before 60 and 61', M, '        match arrival_check(', '''        if !known_profile(terms.profile) {
+            return Receive {
+                answer: ReceiveAnswer::Refused(ReceiveError::ImpossibleState),
+                receiver: self,
+            };
+        }
+        match arrival_check(''')
+error('b19 33 before 62 by the profile in an advance', M, RECEIVER_62, '''if store.len() >= STORE_OCTETS && monotonic_ms < progress.last_monotonic_ms && !known_profile(terms.profile) {
+            return Advance {
+                answer: AdvanceAnswer::Refused(ReceiveError::ClockRegression),
+                receiver: self,
+            };
+        }
+        ''' + RECEIVER_62)
+error('b20 a sender with no 62 by the profile', K, '        !known_profile(outline.profile)\n', '        false\n')
+error('b21 a sender of profile 2 is impossible', K, '        !known_profile(outline.profile)\n', '        outline.profile != 1\n')
+error('b22 a lower_failed that does not read the profile', X, OUTLINE, 'plan.outline(1)', 4)
+error('b23 a receive_response that does not read the profile', X, OUTLINE, 'plan.outline(1)', 5)
+error('b24 33 before 62 by the profile in a sender', K, '        if self.impossible_in(outline) {\n', '        if self.impossible(outline.count) {\n', also=[
+    ('''            return Check::Refuse(SenderError::ClockRegression);
+        }
+''', '''            return Check::Refuse(SenderError::ClockRegression);
+        }
+        if self.impossible_in(outline) {
+            return Check::Refuse(SenderError::ImpossibleState);
+        }
+''')])
+error('b25 nothing offered by a sender of neither profile', X, 'if !state.prepared() {', 'if !state.prepared() || !known_profile(self.terms.profile) {')
+error('b26 a receiver of profile 1 waits as one of 2', PROFILES, 'const REASSEMBLY_MS: u64 = 300_000;', 'const REASSEMBLY_MS: u64 = 120_000;')
+error('b27 a receiver of profile 2 waits as one of 1', PROFILES, 'const REASSEMBLY_2_MS: u64 = 120_000;', 'const REASSEMBLY_2_MS: u64 = 300_000;')
+error('b28 a sender of profile 2 waits as one of 1', PROFILES, 'const SEGMENT_INTERVAL_2_MS: u64 = 150_000;', 'const SEGMENT_INTERVAL_2_MS: u64 = 330_000;')
+error('b29 a wait of 119,999 ms', PROFILES, 'const REASSEMBLY_2_MS: u64 = 120_000;', 'const REASSEMBLY_2_MS: u64 = 119_999;')
+error('b30 a wait of 150,001 ms', PROFILES, 'const SEGMENT_INTERVAL_2_MS: u64 = 150_000;', 'const SEGMENT_INTERVAL_2_MS: u64 = 150_001;')
+error('b31 the figures of profile 2 exchanged', PROFILES, 'const REASSEMBLY_2_MS: u64 = 120_000;', 'const REASSEMBLY_2_MS: u64 = 150_000;', also=[
+    ('const SEGMENT_INTERVAL_2_MS: u64 = 150_000;', 'const SEGMENT_INTERVAL_2_MS: u64 = 120_000;')])
+error('b32 a sender that waits as a receiver', V, 'sender_interval(outline.profile)', 'link::profiles::receiver_interval(outline.profile)')
+error('b33 a repeat that adds 300,000 whatever the profile', B, 'let interval = receiver_interval(terms.profile);', 'let interval = receiver_interval(1);')
+error('b34 a held segment that adds 300,000 whatever the profile', B, 'let interval = receiver_interval(terms.profile);', 'let interval = receiver_interval(1);', 1)
+error('b35 a receive with the 34 of profile 1', C, 'receiver_interval(terms.profile)', 'receiver_interval(1)')
+error('b36 a receive with the 34 of profile 2', C, 'receiver_interval(terms.profile)', 'receiver_interval(2)')
+error('b37 a submitted with the 34 of profile 1', V, 'self.check_count(interval, sets', 'self.check_count(sender_interval(1), sets')
+error('b38 a submitted that adds 330,000 whatever the profile', V, 'self.counted(interval, sets', 'self.counted(sender_interval(1), sets')
+error('b39 a receiver made under profile 1 whatever is asked for', M, 'let receiver = empty(terms, ReceiverState::AwaitingBegin', 'let receiver = empty(Terms { profile: 1, ..terms }, ReceiverState::AwaitingBegin')
+error('b40 a sender made under profile 1 whatever is asked for', X, '            version,\n            profile,\n            number,\n        };', '            version,\n            profile: 1,\n            number,\n        };')
+error('b41 a canceled receiver has profile 1', M, '''                let receiver = emptied(terms, next);
+                Cancel {''', '''                let receiver = emptied(Terms { profile: 1, ..terms }, next);
+                Cancel {''')
+error('b42 a sender that a call leaves under profile 1', X, 'sender: Sender { progress, ..self },', '''sender: Sender {
+                progress,
+                terms: Terms {
+                    profile: 1,
+                    ..self.terms
+                },
+                ..self
+            },''')
+error('b43 the profile of a receiver not written', RH, 't.version, t.profile]', 't.version, 1]')
+error('b44 the profile of a receiver not read', RH, 'profile: l[14],', 'profile: 1,')
+error('b45 the profile of a receiver before its version', RH, 't.version, t.profile]', 't.profile, t.version]', also=[
+    ('version: l[13],', 'version: l[14],'), ('profile: l[14],', 'profile: l[13],')])
+error('b46 the profile of a sender not written', SH, 't.version, t.profile]', 't.version, 1]')
+error('b47 the profile of a sender not read', SH, 'profile: l[13],', 'profile: 1,')
+error('b48 a receiver of layout version 1', RL, 'const LAYOUT_VERSION: u8 = 2;', 'const LAYOUT_VERSION: u8 = 1;')
+error('b49 a sender of layout version 1', SL, 'const LAYOUT_VERSION: u8 = 2;', 'const LAYOUT_VERSION: u8 = 1;')
+error('b50 a plan of layout version 2', PL, 'const LAYOUT_VERSION: u8 = 1;', 'const LAYOUT_VERSION: u8 = 2;')
+error('b51 a receiver of neither profile is misspelled', RH, 'HeadRead { ok, head }', 'HeadRead { ok: ok && link::profiles::known_profile(l[15]), head }')
+error('b52 258 for a receiver of profile 3', RC, '    if LAST_PROTOCOL < protocol {\n', '    if LAST_PROTOCOL < protocol || 2 < profile {\n')
+error('b53 258 for a sender of profile 3', SC, '    if MAX_PROTOCOL < protocol {\n', '    if MAX_PROTOCOL < protocol || 2 < profile {\n')
+error('b54 64 before 258', RC, '    if LAST_PROTOCOL < protocol {\n', '''    if !link::profiles::known_profile(profile) {
+        return 16384;
+    }
+    if LAST_PROTOCOL < protocol {
+''')
+error('b55 64 of a receiver spelled 62', RA, '256 * 64', '256 * 62')
+error('b56 64 of a sender spelled 63', SA, '16384, // 64', '16128, // 64')
+error('b57 version and profile exchanged at the export', RC, '        version,\n        profile,\n', '        profile,\n        version,\n')
+
 # ---- trains, and what the exports give for themselves
 W, O = 'train_c/src/lib.rt', 'codec_c/src/codes.rt'
 error('t01 a train goes on past a message', W, 'Message::Octets(_) => true,', 'Message::Octets(_) => false,')
@@ -795,13 +913,31 @@ def apply(crates, file, changes):
 
 
 # By the first letter of an error's name: the areas that the driver runs (tools/differ).
-AREAS = {'c': 'c', 'p': 'p', 'f': 'p', 'd': 'p', 'n': 'p', 'r': 'r', 's': 's', 't': 't'}
+AREAS = {'c': 'c', 'p': 'p', 'f': 'p', 'd': 'p', 'n': 'p', 'r': 'r', 's': 's', 't': 't', 'b': 'rts'}
+# The driver's features by profile: the original as it is, and with the figures of profile 2.
+DRIVERS = {1: [], 2: ['--features', 'profile_2']}
+
+
+def build(root, library):
+    """Builds the driver of each profile."""
+    environment = dict(os.environ, CATKHIZE_LIB_DIR=library, CARGO_TARGET_DIR=os.path.join(root, 'target'))
+    for profile, features in DRIVERS.items():
+        subprocess.run(['cargo', 'build', '--offline', '--release', '--quiet', '-p', 'differ', *features], cwd=HERE, env=environment, check=True)
+        shutil.copy(os.path.join(root, 'target/release/differ'), os.path.join(root, f'differ_{profile}'))
 
 
 def run(root, library, areas, rounds):
-    """What the driver says: None where it finds nothing."""
+    """What the first driver says that finds something, None where none does."""
+    for profile in DRIVERS:
+        said = run_driver(root, library, profile, areas, rounds)
+        if said is not None:
+            return f'Profile {profile}: {said}'
+    return None
+
+
+def run_driver(root, library, profile, areas, rounds):
     environment = dict(os.environ, LD_LIBRARY_PATH=library, RUST_BACKTRACE='0')
-    driver = os.path.join(root, 'target/release/differ')
+    driver = os.path.join(root, f'differ_{profile}')
     try:
         ran = subprocess.run([driver, '--rounds', str(rounds), '--shrink', '0', '--areas', areas], env=environment, capture_output=True, text=True, timeout=SECONDS)
     except subprocess.TimeoutExpired:
@@ -824,8 +960,7 @@ def main():
     said = compile_exports(source, library)
     if said:
         sys.exit(f'the exports do not compile: {said}')
-    environment = dict(os.environ, CATKHIZE_LIB_DIR=library, CARGO_TARGET_DIR=os.path.join(root, 'target'))
-    subprocess.run(['cargo', 'build', '--offline', '--release', '--quiet', '-p', 'differ'], cwd=HERE, env=environment, check=True)
+    build(root, library)
     said = run(root, library, 'cprts', 1)
     if said:
         sys.exit(f'the exports as they are: {said}')

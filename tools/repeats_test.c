@@ -104,7 +104,7 @@ static unsigned outcome(const struct repeat *r, int as_train) {
     memset(store, FILLING, sizeof store);
     memset(output, FILLING, sizeof output);
     memset(answer, FILLING, sizeof answer);
-    if (catkhize_receiver_new(record, sizeof record, PEER, PROTOCOL, TRANSACTION, VERSION, CATKHIZE_STORE_OCTETS, 0) != CATKHIZE_DONE
+    if (catkhize_receiver_new(record, sizeof record, PEER, PROTOCOL, TRANSACTION, VERSION, CATKHIZE_PROFILE_1, CATKHIZE_STORE_OCTETS, 0) != CATKHIZE_DONE
         || !receive(0, CATKHIZE_KIND_BEGIN, first, sizeof first) || !receive(1, r->held_kind, second, r->held)) {
         return REFUSED;
     }

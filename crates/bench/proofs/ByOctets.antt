@@ -27,35 +27,35 @@ use Rattle.bench.specs.Closing.{unchanged, closingBy, closingCallOf, clo
 module _ (memory store : List ℕ) where
   -- ---- the last reading
 
-  last-there : 3930 ≤ length memory → numberAt 8 memory 50 ≡ recordOf memory .progress .«last_monotonic_ms»
+  last-there : 3931 ≤ length memory → numberAt 8 memory 51 ≡ recordOf memory .progress .«last_monotonic_ms»
   unfolding recordOf headOf progressOf
   last-there h =
-      let n = length-drop 50 memory in
-      ap (λ (b : Bool). cond b 0 (numberOf 8 (drop 50 memory))) (le-ltb (length (drop 50 memory)) 8 (omega arith)) ∙ ap (numberOf 8) (sym (drop-drop 27 23 memory))
+      let n = length-drop 51 memory in
+      ap (λ (b : Bool). cond b 0 (numberOf 8 (drop 51 memory))) (le-ltb (length (drop 51 memory)) 8 (omega arith)) ∙ ap (numberOf 8) (sym (drop-drop 27 24 memory))
 
   -- a call that a memory that is too short refuses, whatever the reading, is the same at the reading that is read there
-  at-last : (f : ℕ → Call) → (length memory < 3930 → (n : ℕ) → call (codeOf short) memory store [] [] ≡ f n)
-      → f (numberAt 8 memory 50) ≡ f (recordOf memory .progress .«last_monotonic_ms»)
+  at-last : (f : ℕ → Call) → (length memory < 3931 → (n : ℕ) → call (codeOf short) memory store [] [] ≡ f n)
+      → f (numberAt 8 memory 51) ≡ f (recordOf memory .progress .«last_monotonic_ms»)
   at-last f refuses =
       ⊎-elim
-      (λ (h : 3930 ≤ length memory). ap f (last-there h))
-      (λ (h : length memory < 3930). sym (refuses h (numberAt 8 memory 50)) ∙ refuses h (recordOf memory .progress .«last_monotonic_ms»))
-      (le-or-lt 3930 (length memory))
+      (λ (h : 3931 ≤ length memory). ap f (last-there h))
+      (λ (h : length memory < 3931). sym (refuses h (numberAt 8 memory 51)) ∙ refuses h (recordOf memory .progress .«last_monotonic_ms»))
+      (le-or-lt 3931 (length memory))
 
-  too-short : length memory < 3930 → refusal (closingTests memory) ≡ some short
-  too-short h = stop short (start (closingTests memory)) (lt-ltb (length memory) 3930 h)
+  too-short : length memory < 3931 → refusal (closingTests memory) ≡ some short
+  too-short h = stop short (start (closingTests memory)) (lt-ltb (length memory) 3931 h)
 
-  cancel-at-last : cancelCall memory store (numberAt 8 memory 50) ≡ cancelCall memory store (recordOf memory .progress .«last_monotonic_ms»)
+  cancel-at-last : cancelCall memory store (numberAt 8 memory 51) ≡ cancelCall memory store (recordOf memory .progress .«last_monotonic_ms»)
   cancel-at-last = at-last (cancelCall memory store) (λ h n. cancel-refused memory store n short (too-short h))
 
-  release-at-last : releaseCall memory store (numberAt 8 memory 50) ≡ releaseCall memory store (recordOf memory .progress .«last_monotonic_ms»)
+  release-at-last : releaseCall memory store (numberAt 8 memory 51) ≡ releaseCall memory store (recordOf memory .progress .«last_monotonic_ms»)
   release-at-last = at-last (releaseCall memory store) (λ h n. release-refused memory store n short (too-short h))
 
   -- ---- the state
 
-  state-there : recordOf memory .progress .state ≡ stateFrom (getD memory 23 0) (getD memory 24 0)
+  state-there : recordOf memory .progress .state ≡ stateFrom (getD memory 24 0) (getD memory 25 0)
   unfolding recordOf headOf progressOf stateOf
-  state-there = ap₂ stateFrom (getD-drop 23 memory 0 0) (getD-drop 23 memory 1 0)
+  state-there = ap₂ stateFrom (getD-drop 24 memory 0 0) (getD-drop 24 memory 1 0)
 
   by-number : (n s last : ℕ)
       → closingBy (stateFrom n s) memory store last
@@ -77,8 +77,8 @@ module _ (memory store : List ℕ) where
 
   module _ (made : getD memory 0 0 ≡ 0 → ⊥) where
     -- by two tests of the state's octet
-    by-tests : (b t : Bool) → eqb (getD memory 23 0) 2 ≡ b → taking (stateFrom (getD memory 23 0) 0) ≡ t
-        → cond b (releaseCall memory store (numberAt 8 memory 50)) (cond t (cancelCall memory store (numberAt 8 memory 50)) (unchanged memory store)) ≡ closeCall memory store
+    by-tests : (b t : Bool) → eqb (getD memory 24 0) 2 ≡ b → taking (stateFrom (getD memory 24 0) 0) ≡ t
+        → cond b (releaseCall memory store (numberAt 8 memory 51)) (cond t (cancelCall memory store (numberAt 8 memory 51)) (unchanged memory store)) ≡ closeCall memory store
     unfolding closeCall
     by-tests b t p q =
         let last = recordOf memory .progress .«last_monotonic_ms» in
@@ -86,15 +86,15 @@ module _ (memory store : List ℕ) where
         ∙ sym
         (ap (λ (x : Bool). cond x (unchanged memory store) (closingBy (recordOf memory .progress .state) memory store last)) (ne-eqb _ _ made)
         ∙ ap (λ x. closingBy x memory store last) state-there
-        ∙ by-number (getD memory 23 0) (getD memory 24 0) last
+        ∙ by-number (getD memory 24 0) (getD memory 25 0) last
         ∙ ap₂ (λ (x y : Bool). cond x (releaseCall memory store last) (cond y (cancelCall memory store last) (unchanged memory store))) p q)
 
-    pub when-complete : getD memory 23 0 ≡ 2 → releaseCall memory store (numberAt 8 memory 50) ≡ closeCall memory store
+    pub when-complete : getD memory 24 0 ≡ 2 → releaseCall memory store (numberAt 8 memory 51) ≡ closeCall memory store
     when-complete e = by-tests true _ (eq-eqb _ _ e) refl
 
-    pub when-closed : (getD memory 23 0 ≡ 2 → ⊥) → taking (stateFrom (getD memory 23 0) 0) ≡ false → unchanged memory store ≡ closeCall memory store
+    pub when-closed : (getD memory 24 0 ≡ 2 → ⊥) → taking (stateFrom (getD memory 24 0) 0) ≡ false → unchanged memory store ≡ closeCall memory store
     when-closed e q = by-tests false false (ne-eqb _ _ e) q
 
-    pub when-open : (getD memory 23 0 ≡ 2 → ⊥) → taking (stateFrom (getD memory 23 0) 0) ≡ true
-        → cancelCall memory store (numberAt 8 memory 50) ≡ closeCall memory store
+    pub when-open : (getD memory 24 0 ≡ 2 → ⊥) → taking (stateFrom (getD memory 24 0) 0) ≡ true
+        → cancelCall memory store (numberAt 8 memory 51) ≡ closeCall memory store
     when-open e q = by-tests false true (ne-eqb _ _ e) q

@@ -115,7 +115,7 @@ module _ (r : Receiver) (fits : ReceiverFits r) (rest : List ℕ) where
   tested =
       let a = length-append (imageOf r) rest in
       let b = receiver-layout .wide r fits in
-      refusal-pass (closingTests (imageOf r ++ rest)) (le-ltb (length (imageOf r ++ rest)) 3930 (omega arith), (ap not (spelled-ok receiver-layout r fits rest), tt))
+      refusal-pass (closingTests (imageOf r ++ rest)) (le-ltb (length (imageOf r ++ rest)) 3931 (omega arith), (ap not (spelled-ok receiver-layout r fits rest), tt))
 
   still-spelled : spelledBy (imageOf r ++ rest) ≡ some r
   unfolding spelledBy

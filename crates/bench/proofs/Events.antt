@@ -131,7 +131,7 @@ figures-read x m f =
 
 -- ---- the state
 
-state-at : (s : Receiver) (rest : List ℕ) → getD (imageOf s ++ rest) 23 0 ≡ stateNumber (s .progress .state)
+state-at : (s : Receiver) (rest : List ℕ) → getD (imageOf s ++ rest) 24 0 ≡ stateNumber (s .progress .state)
 unfolding imageOf headImage termsImage progressImage standingImage stateImage peerImage protocolImage spell
 state-at s rest = refl
 

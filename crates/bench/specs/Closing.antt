@@ -64,7 +64,7 @@ pub record LeavesClosed (r : Receiver) (store : List ℕ) (c : Call) : Type 0 wh
 
 -- the octet of the memory that is not 0 where a receiver line opened a section (session::OPENED)
 abbrev pub openedAt : ℕ
-openedAt = 4003
+openedAt = 4004
 
 -- with the section ended that there is: one that was opened, or the lines before the first receiver line where one of them was refused
 abbrev pub endedBefore : Told → (memory : List ℕ) → Told

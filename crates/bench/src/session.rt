@@ -153,6 +153,7 @@ fn make(h: Header, memory: &mut Memory) -> u32 {
         protocol_octet(protocol),
         h.transaction_id,
         h.version,
+        h.profile,
         h.maximum,
         h.at,
     )
@@ -183,7 +184,7 @@ pub fn open(h: Header, counts: &mut Counts, memory: &mut Memory) -> Event {
     say::say(say::COLON, 0, 0);
     say::say(say::RECEIVER, 0, 0);
     say_names(memory);
-    say::say(say::TERMS, h.version as u64, 0);
+    say::say(say::TERMS, h.version as u64, h.profile as u64);
     say::say(say::TERMS + 1, h.maximum, 0);
     say_made(code);
     let answer = [0u8; layout::RECEPTION_OCTETS];

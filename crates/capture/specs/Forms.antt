@@ -34,6 +34,7 @@ spelling keyword.Carrier = 99 ∷ 97 ∷ 114 ∷ 114 ∷ 105 ∷ 101 ∷ 114 ∷
 spelling keyword.Other = 111 ∷ 116 ∷ 104 ∷ 101 ∷ 114 ∷ []
 spelling keyword.Transaction = 116 ∷ 114 ∷ 97 ∷ 110 ∷ 115 ∷ 97 ∷ 99 ∷ 116 ∷ 105 ∷ 111 ∷ 110 ∷ []
 spelling keyword.Version = 118 ∷ 101 ∷ 114 ∷ 115 ∷ 105 ∷ 111 ∷ 110 ∷ []
+spelling keyword.Profile = 112 ∷ 114 ∷ 111 ∷ 102 ∷ 105 ∷ 108 ∷ 101 ∷ []
 spelling keyword.Maximum = 109 ∷ 97 ∷ 120 ∷ 105 ∷ 109 ∷ 117 ∷ 109 ∷ []
 spelling keyword.At = 97 ∷ 116 ∷ []
 spelling keyword.Advance = 97 ∷ 100 ∷ 118 ∷ 97 ∷ 110 ∷ 99 ∷ 101 ∷ []
@@ -43,12 +44,21 @@ spelling keyword.Cancel = 99 ∷ 97 ∷ 110 ∷ 99 ∷ 101 ∷ 108 ∷ []
 abbrev pub timedForms : Keyword → List Form
 timedForms k = form.Word k ∷ form.Number ∷ []
 
--- receiver peer KIND WIDTH VALUE protocol NAME OCTET transaction T version V maximum N at MS
-abbrev pub forms : Sentence → List Form
-forms sentence.Receiver =
+-- receiver peer KIND WIDTH VALUE protocol NAME OCTET transaction T version V, and what follows the version
+abbrev pub receiverForms : List Form → List Form
+receiverForms behind =
     form.Word keyword.Receiver ∷ form.Word keyword.Peer ∷ form.Small ∷ form.Small ∷ form.Number
     ∷ form.Word keyword.Protocol ∷ form.Protocol ∷ form.Octet ∷ form.Word keyword.Transaction ∷ form.Small
-    ∷ form.Word keyword.Version ∷ form.Small ∷ form.Word keyword.Maximum ∷ form.Number ∷ form.Word keyword.At ∷ form.Number ∷ []
+    ∷ form.Word keyword.Version ∷ form.Small ∷ behind
+
+-- maximum N at MS
+abbrev pub lastForms : List Form
+lastForms = form.Word keyword.Maximum ∷ form.Number ∷ form.Word keyword.At ∷ form.Number ∷ []
+
+-- a receiver line without a profile, and one with `profile P` behind the version
+abbrev pub forms : Sentence → List Form
+forms sentence.Receiver = receiverForms lastForms
+forms sentence.ReceiverProfile = receiverForms (form.Word keyword.Profile ∷ form.Small ∷ lastForms)
 forms sentence.Advance = timedForms keyword.Advance
 forms sentence.Cancel = timedForms keyword.Cancel
 

@@ -1,5 +1,5 @@
 -- What a line of a capture says (docs/CAPTURE.md, 'Lines'), with the octets of a segment at the start of a lent list.
-use Prim.Native.Nat.{ℕ}
+use Prim.Native.Nat.{ℕ, _+_}
 use mathlib.Core.Bool.{Bool, true, false, cond}
 use mathlib.Core.List.{List, [], _∷_}
 use lib.Dec.{eqb}
@@ -14,6 +14,7 @@ use Rattle.capture.specs.declared.octet.Octets.{Octets}
 use Rattle.capture.specs.declared.octet.Octets.the-variants as octets
 use Rattle.capture.specs.declared.form.Keyword.the-variants as keyword
 use Rattle.capture.specs.declared.form.Form.the-variants as form
+use Rattle.capture.specs.declared.form.Sentence.{Sentence}
 use Rattle.capture.specs.declared.form.Sentence.the-variants as sentence
 use Rattle.capture.specs.declared.form.WordFault.the-variants as fault
 use Rattle.capture.specs.declared.form.Verdict.{Verdict}
@@ -49,15 +50,17 @@ protocolOf w x =
 abbrev pub peerOf : List ℕ → MobileIdentity
 peerOf t = record { kind = smallAt t 2; width = smallAt t 3; value = valueAt t 4 }
 
-abbrev pub headerOf : List ℕ → Header
-headerOf t =
+-- with a profile, and the place of the word `maximum`
+abbrev pub headerOf : (profile place : ℕ) → List ℕ → Header
+headerOf profile place t =
     record {
       peer = peerOf t;
       protocol = protocolOf (wordAt t 6) (octetOrZero (octetOf (wordAt t 7)));
       «transaction_id» = smallAt t 9;
       version = smallAt t 11;
-      maximum = valueAt t 13;
-      at = valueAt t 15;
+      profile = profile;
+      maximum = valueAt t (place + 1);
+      at = valueAt t (place + 3);
     }
 
 -- ---- lines of words
@@ -66,8 +69,13 @@ abbrev pub unless : Verdict → Line → Line
 unless verdict.Good x = x
 unless (verdict.Bad f i) x = line.BadWord f i
 
+unfoldable pub headerLine : Sentence → (profile place : ℕ) → List ℕ → Line
+headerLine s profile place t = unless (wordsCheck (forms s) 0 t) (line.Receiver (headerOf profile place t))
+
+-- the word behind the version tells which sentence it is; the profile of a line that says none is 1
 unfoldable pub receiverLine : List ℕ → Line
-receiverLine t = unless (wordsCheck (forms sentence.Receiver) 0 t) (line.Receiver (headerOf t))
+receiverLine t =
+    cond (is keyword.Profile (wordAt t 12)) (headerLine sentence.ReceiverProfile (smallAt t 13) 14 t) (headerLine sentence.Receiver 1 12 t)
 
 unfoldable pub advanceLine : List ℕ → Line
 advanceLine t = unless (wordsCheck (forms sentence.Advance) 0 t) (line.Advance (valueAt t 1))

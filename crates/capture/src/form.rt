@@ -15,8 +15,13 @@ ghost use Rattle.capture.specs.Text.{word as wordOf};
 
 const MAX_SMALL: u64 = 255;
 
-// The words of a receiver line, and of an advance or a cancel.
+// The words of a receiver line that says no profile, and of an advance or a cancel.
 const RECEIVER_WORDS: usize = 16;
+
+// Where a receiver line says its profile, and the words that this takes.
+pub const PROFILE_PLACE: usize = 12;
+
+pub const PROFILE_WORDS: usize = 2;
 
 const TIMED_WORDS: usize = 2;
 
@@ -29,6 +34,7 @@ pub enum Keyword {
     Other,
     Transaction,
     Version,
+    Profile,
     Maximum,
     At,
     Advance,
@@ -44,9 +50,10 @@ pub enum Form {
     Octet,
 }
 
-// The lines of words.
+// The lines of words; a receiver line has two, without a profile and with one.
 pub enum Sentence {
     Receiver,
+    ReceiverProfile,
     Advance,
     Cancel,
 }
@@ -85,6 +92,7 @@ pub fn is_keyword(k: Keyword, w: &[u8]) -> bool
         Keyword::Other => octets::same(w, b"other"),
         Keyword::Transaction => octets::same(w, b"transaction"),
         Keyword::Version => octets::same(w, b"version"),
+        Keyword::Profile => octets::same(w, b"profile"),
         Keyword::Maximum => octets::same(w, b"maximum"),
         Keyword::At => octets::same(w, b"at"),
         Keyword::Advance => octets::same(w, b"advance"),
@@ -92,7 +100,7 @@ pub fn is_keyword(k: Keyword, w: &[u8]) -> bool
     }
 }
 
-// What stands at place i of a receiver line.
+// What stands at place i of a receiver line that says no profile.
 fn receiver_form(i: usize) -> Form
     ensures { λ r. ⌜ r ≡ formAt (forms Sentence.Receiver) i ⌝ }
 {
@@ -120,6 +128,22 @@ fn receiver_form(i: usize) -> Form
     Form::Number
 }
 
+// What stands at place i of a receiver line that says one: two words more behind the version.
+fn profile_form(i: usize) -> Form
+    ensures { λ r. ⌜ r ≡ formAt (forms Sentence.ReceiverProfile) i ⌝ }
+{
+    if i < PROFILE_PLACE {
+        return receiver_form(i);
+    }
+    if i == PROFILE_PLACE {
+        return Form::Word(Keyword::Profile);
+    }
+    if i == PROFILE_PLACE + 1 {
+        return Form::Small;
+    }
+    receiver_form(i - PROFILE_WORDS)
+}
+
 // What stands at place i of a line that starts with a word and has a number after it.
 fn timed_form(k: Keyword, i: usize) -> Form
     ensures { λ r. ⌜ r ≡ formAt (timedForms k) i ⌝ }
@@ -135,6 +159,7 @@ fn form_at(sentence: Sentence, i: usize) -> Form
 {
     match sentence {
         Sentence::Receiver => receiver_form(i),
+        Sentence::ReceiverProfile => profile_form(i),
         Sentence::Advance => timed_form(Keyword::Advance, i),
         Sentence::Cancel => timed_form(Keyword::Cancel, i),
     }
@@ -146,6 +171,7 @@ fn places(sentence: Sentence) -> usize
 {
     match sentence {
         Sentence::Receiver => RECEIVER_WORDS,
+        Sentence::ReceiverProfile => RECEIVER_WORDS + PROFILE_WORDS,
         Sentence::Advance => TIMED_WORDS,
         Sentence::Cancel => TIMED_WORDS,
     }

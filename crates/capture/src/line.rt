@@ -1,6 +1,8 @@
 // What a line of a capture says.
 use crate::form::Form;
 use crate::form::Keyword;
+use crate::form::PROFILE_PLACE;
+use crate::form::PROFILE_WORDS;
 use crate::form::Sentence;
 use crate::form::Verdict;
 use crate::form::WordFault;
@@ -23,7 +25,11 @@ use crate::text::word_end;
 use link::HigherLayerProtocol;
 use link::MobileIdentity;
 ghost use mathlib.Core.Path.{_≡_};
-ghost use Rattle.capture.specs.Lines.{protocolOf, peerOf, headerOf, receiverLine, advanceLine, cancelLine, octetsAfter, segmentLine, textLine, lineOf, opening, read};
+ghost use Prim.Native.Nat.{_≤_};
+ghost use Rattle.capture.specs.Lines.{protocolOf, peerOf, headerOf, headerLine, receiverLine, advanceLine, cancelLine, octetsAfter, segmentLine, textLine, lineOf, opening, read};
+
+// The profile of a receiver line that says none.
+const UNSAID_PROFILE: u8 = 1;
 
 // What a receiver is made with.
 pub struct Header {
@@ -31,6 +37,7 @@ pub struct Header {
     pub protocol: HigherLayerProtocol,
     pub transaction_id: u8,
     pub version: u8,
+    pub profile: u8,
     pub maximum: u64,
     pub at: u64,
 }
@@ -69,9 +76,10 @@ fn peer_of(t: &[u8]) -> MobileIdentity
     }
 }
 
-// The values of a receiver line whose words are right.
-fn header_of(t: &[u8]) -> Header
-    ensures { λ r. ⌜ r ≡ headerOf (now (t .entry)) ⌝ }
+// The values of a receiver line whose words are right, with its profile and the place of its word maximum.
+fn header_of(profile: u8, place: usize, t: &[u8]) -> Header
+    requires { ⌜ place ≤ 14 ⌝ }
+    ensures { λ r. ⌜ r ≡ headerOf profile place (now (t .entry)) ⌝ }
 {
     let peer = peer_of(t);
     let protocol = protocol_of(word_at(t, 6), octet_or_zero(word_at(t, 7)));
@@ -80,18 +88,36 @@ fn header_of(t: &[u8]) -> Header
         protocol,
         transaction_id: small_or_zero(word_at(t, 9)),
         version: small_or_zero(word_at(t, 11)),
-        maximum: value_or_zero(word_at(t, 13)),
-        at: value_or_zero(word_at(t, 15)),
+        profile,
+        maximum: value_or_zero(word_at(t, place + 1)),
+        at: value_or_zero(word_at(t, place + 3)),
     }
 }
 
+fn header_line(sentence: Sentence, profile: u8, place: usize, t: &[u8]) -> Line
+    requires { ⌜ place ≤ 14 ⌝ }
+    ensures { λ r. ⌜ r ≡ headerLine sentence profile place (now (t .entry)) ⌝ }
+{
+    match check_words(sentence, t) {
+        Verdict::Bad(f, i) => Line::BadWord(f, i),
+        Verdict::Good => Line::Receiver(header_of(profile, place, t)),
+    }
+}
+
+// The word behind the version tells whether the line says a profile.
 fn receiver_line(t: &[u8]) -> Line
     ensures { λ r. ⌜ r ≡ receiverLine (now (t .entry)) ⌝ }
 {
-    match check_words(Sentence::Receiver, t) {
-        Verdict::Bad(f, i) => Line::BadWord(f, i),
-        Verdict::Good => Line::Receiver(header_of(t)),
+    if is_keyword(Keyword::Profile, word_at(t, PROFILE_PLACE)) {
+        let profile = small_or_zero(word_at(t, PROFILE_PLACE + 1));
+        return header_line(
+            Sentence::ReceiverProfile,
+            profile,
+            PROFILE_PLACE + PROFILE_WORDS,
+            t,
+        );
     }
+    header_line(Sentence::Receiver, UNSAID_PROFILE, PROFILE_PLACE, t)
 }
 
 fn advance_line(t: &[u8]) -> Line

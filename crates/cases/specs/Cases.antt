@@ -9,6 +9,7 @@ use Prim.Native.Nat.{ℕ, zero, suc, _<_}
 use lib.ListN.{length, replicate}
 use Rattle.octets.specs.Octets.{wipedTo, sameOctets}
 use Rattle.words.specs.Marks.{marked, sumBelow, wordsOf, allBelow, highestOf}
+use Rattle.link.specs.Profile.{knownProfile, receiverInterval}
 use Rattle.link.specs.declared.HigherLayerProtocol.the-variants.{Segmented}
 use Rattle.tsar.specs.declared.Compression.the-variants as compression
 use Rattle.tsar.specs.declared.AcknowledgmentWindow.{AcknowledgmentWindow}
@@ -34,7 +35,7 @@ use Rattle.receiver.specs.declared.ReceiverState.{ReceiverState}
 use Rattle.receiver.specs.declared.ReceiverState.the-variants.{Receiving, Complete, Failed}
 use Rattle.receiver.specs.declared.Receiver.{Receiver}
 use Rattle.receiver.specs.declared.Terms.{Terms}
-use Rattle.receiver.specs.Record.{sumTo, emptySlots, emptyLengths, joined, impossible}
+use Rattle.receiver.specs.Record.{intervalOf, sumTo, emptySlots, emptyLengths, joined, impossible}
 use Rattle.receiver.specs.Answers.{Answer, answered}
 use Rattle.receiver.specs.Receive.{Arrival, receiveOf}
 use Rattle.receiver.specs.Advance.{tryNewOf}
@@ -92,7 +93,7 @@ refusalIn (segmented p) = none
 -- a receiver of a peer, for messages of at most 10 octets
 abbrev terms : Terms
 terms =
-    record { peer = record { kind = 1; width = 34; value = 5 }; protocol = Segmented 0; «transaction_id» = 0; version = 1; «maximum_message_octets» = 10 }
+    record { peer = record { kind = 1; width = 34; value = 5 }; protocol = Segmented 0; «transaction_id» = 0; version = 1; profile = 1; «maximum_message_octets» = 10 }
 
 abbrev arrival : Segment × List ℕ → Arrival
 arrival x = record { peer = terms .peer; protocol = terms .protocol; segment = x .0; octets = x .1; unparsed = 0; reading = 0 }
@@ -101,7 +102,7 @@ arrival x = record { peer = terms .peer; protocol = terms .protocol; segment = x
 unfoldable pub receiveAll : Receiver → List ℕ → List (Segment × List ℕ) → List (Answer × ReceiverState)
 receiveAll r store [] = []
 receiveAll r store (x ∷ xs) =
-    let st = receiveOf 300000 r (arrival x) store (replicate 10 0xa5) in
+    let st = receiveOf (intervalOf r) r (arrival x) store (replicate 10 0xa5) in
     (st .answer, st .receiver .progress .state) ∷ receiveAll (st .receiver) (st .store) xs
 
 -- what the definitions give for a case, in the case's own form; a receiver is new, and its store filled with A5
@@ -220,6 +221,6 @@ unfolding given
 planned-as m budget k n r e p q = rw (e, p, q)
 
 pub all-cases : (d o₁ o₂ o₃ o₄ o₅ o₆ : ℕ) (m n : List ℕ) → d < 256 → length m ≡ 256 → length n ≡ 257 → All (cases d o₁ o₂ o₃ o₄ o₅ o₆ m n)
-unfolding cases given segmentOf segmentAs servicesOf stepOf runParams compressionOf windowOf statusOf encodeOf bitsOf bits octetsOf fieldsWith planMessage planOf segmentCount longer receiveAll tryNewOf receiveOf impossible allBelow sumTo emptySlots emptyLengths joined sameOctets wipedTo marked wordsOf sumBelow highestOf
+unfolding knownProfile receiverInterval cases given segmentOf segmentAs servicesOf stepOf runParams compressionOf windowOf statusOf encodeOf bitsOf bits octetsOf fieldsWith planMessage planOf segmentCount longer receiveAll tryNewOf receiveOf impossible allBelow sumTo emptySlots emptyLengths joined sameOctets wipedTo marked wordsOf sumBelow highestOf
 all-cases d o₁ o₂ o₃ o₄ o₅ o₆ m n h e f =
     (refl, (refl, (refl, (refl, (refl, (refl, (refl, (refl, (refl, (refl, (refl, (refl, (refl, (refl, (refl, (refl, (refl, (p10 d o₁ o₂ o₃ o₄ o₅ o₆ h, (planned-as m 4 256 (some 256) none e refl refl, (planned-as n 4 257 none (some (22, 0)) f refl refl, (refl, (refl, tt))))))))))))))))))))))

@@ -58,13 +58,13 @@ module _ (new : TryNewFunction) (step : StepFunction) (t : Terms) (made : ℕ) (
     pub no-other : (before : List ℕ) (i j : ℕ) (rest : List ℕ) → o ≡ before ++ (i ∷ j ∷ rest) → carried (received before i .answer) ≡ none
     pub not-again : (again : List ℕ) → ((s : ℕ) → 0 < occurs s again → s < count) → (i : ℕ) → i < count → carried (received (o ++ again) i .answer) ≡ none
 
--- every train of demand 3's second half, of however many segments, in each of its orders
-abbrev pub EveryOrderServed : ℕ → TryNewFunction → StepFunction → Type 0
+-- every train of demand 3's second half, of however many segments, in each of its orders, with the interval of the receiver's terms
+abbrev pub EveryOrderServed : (Terms → ℕ) → TryNewFunction → StepFunction → Type 0
 EveryOrderServed interval new step =
     (t : Terms) (made : ℕ) → new t made .refused ≡ none
     → (store message : List ℕ) (count : ℕ) (segment : ℕ → WholeSegment)
     → TrainFor (t .«transaction_id») (t .version) message count segment
     → length message ≤ t .«maximum_message_octets» → storeOctets ≤ length store
-    → (clock : ℕ → ℕ) → InTime interval made count clock
+    → (clock : ℕ → ℕ) → InTime (interval t) made count clock
     → (out : ℕ → List ℕ) → ((place : ℕ) → min (t .«maximum_message_octets») storeOctets ≤ length (out place))
     → (o : List ℕ) → IsOrder count o → Served new step t made store segment clock out message count o

@@ -10,6 +10,7 @@ use lib.ListN.{replicate}
 use lib.Dec.{lit≤, eqb}
 use Rattle.octets.specs.Octets.{wipedTo, sameOctets}
 use Rattle.words.specs.Marks.{marked, sumBelow, wordsOf, allBelow, highestOf}
+use Rattle.link.specs.Profile.{knownProfile, receiverInterval}
 use Rattle.tsar.specs.Kinds.{isEnd}
 use Rattle.tsar.specs.Layout.{WholeSegment}
 use Rattle.tsar.specs.declared.AcknowledgmentWindow.the-variants as window
@@ -23,8 +24,9 @@ use Rattle.receiver.specs.Answers.{Answer, refused, answered, Step, refuses}
 use Rattle.receiver.specs.Receive.{sequence, kind, receiveOf}
 use Rattle.receiver.specs.Advance.{tryNewOf}
 use Rattle.receiver.specs.declared.Terms.{Terms}
-use Rattle.delivery.specs.Calls.{receive, advance, cancel, release, StepFunction, stepOf, carried}
+use Rattle.delivery.specs.Calls.{receive, advance, cancel, release, StepFunction, ours, carried}
 use Rattle.delivery.specs.Demand.{planned, trainOf}
+use Rattle.delivery.specs.Own.{ownInterval}
 use Rattle.delivery.specs.Witness.{text, terms₀, store₀, room, new-made, plan₀, planned as planned₀}
 use Rattle.delivery.specs.Refuted.{none-some}
 use Rattle.cases.specs.EveryOrder.{InTime, received, Served, EveryOrderServed}
@@ -34,7 +36,8 @@ use Rattle.cases.specs.EveryOrderServed.{ours-served}
 abbrev still : ℕ → ℕ
 still i = 7
 
-still-in-time : (count : ℕ) → InTime 300000 0 count still
+still-in-time : (count : ℕ) → InTime (ownInterval terms₀) 0 count still
+unfolding receiverInterval
 still-in-time count = record { starts = lit≤ tt; never-falls = λ i. lit≤ tt; under = λ i h. lit≤ tt; below = λ i. lit≤ tt }
 
 -- ---- a train of six segments
@@ -43,7 +46,7 @@ abbrev sixteen : List ℕ
 sixteen = 10 ∷ 11 ∷ 12 ∷ 13 ∷ 14 ∷ 15 ∷ 16 ∷ 17 ∷ 18 ∷ 19 ∷ 20 ∷ 21 ∷ 22 ∷ 23 ∷ 24 ∷ 25 ∷ []
 
 abbrev terms₆ : Terms
-terms₆ = record { peer = terms₀ .peer; protocol = terms₀ .protocol; «transaction_id» = 0; version = 1; «maximum_message_octets» = 16 }
+terms₆ = record { peer = terms₀ .peer; protocol = terms₀ .protocol; «transaction_id» = 0; version = 1; profile = 1; «maximum_message_octets» = 16 }
 
 abbrev plan₆ : SegmentedMessage
 plan₆ =
@@ -63,18 +66,15 @@ unfolding planMessage planOf segmentCount
 planned₆ = refl
 
 made₆ : tryNewOf terms₆ 0 .refused ≡ none
-unfolding tryNewOf
+unfolding tryNewOf knownProfile
 made₆ = refl
 
-pub six-served : (k : ℕ) → k < 120 → Served tryNewOf (stepOf 300000) terms₆ 0 store₀ (trainOf plan₆ sixteen) still (λ place. replicate 16 165) sixteen 6 (orderOf 6 k)
+pub six-served : (k : ℕ) → k < 120 → Served tryNewOf ours terms₆ 0 store₀ (trainOf plan₆ sixteen) still (λ place. replicate 16 165) sixteen 6 (orderOf 6 k)
 six-served k h =
-    ours-served 300000 terms₆ 0 made₆ store₀ sixteen 6 (trainOf plan₆ sixteen) (planned 6 100 window.Prohibited plan₆ planned₆) (lit≤ tt) room still (still-in-time 6)
+    ours-served terms₆ 0 made₆ store₀ sixteen 6 (trainOf plan₆ sixteen) (planned 6 100 window.Prohibited plan₆ planned₆) (lit≤ tt) room still (still-in-time 6)
     (λ place. replicate 16 165) (λ place. lit≤ tt) (orderOf 6 k) (every-order-once 6 .each-is k h)
 
 -- ---- receivers of which it does not hold: by a train of three segments in the order 0 2 1
-
-abbrev ours : StepFunction
-ours = stepOf 300000
 
 abbrev three : ℕ → WholeSegment
 three = trainOf (plan₀ window.Prohibited true) text
@@ -89,7 +89,7 @@ order-1 = refl
 abbrev Turned : StepFunction → Type 0
 Turned step = Served tryNewOf step terms₀ 0 store₀ three still output text 3 (0 ∷ 2 ∷ 1 ∷ [])
 
-served-so : (step : StepFunction) → EveryOrderServed 300000 tryNewOf step → Turned step
+served-so : (step : StepFunction) → EveryOrderServed ownInterval tryNewOf step → Turned step
 served-so step s =
     s terms₀ 0 new-made store₀ text 3 three (planned 6 100 window.Prohibited (plan₀ window.Prohibited true) planned₀) (lit≤ tt) room still (still-in-time 3) output (λ place. lit≤ tt)
     (0 ∷ 2 ∷ 1 ∷ []) (subst (λ (o : List ℕ). IsOrder 3 o) order-1 (every-order-once 3 .each-is 1 (lit≤ tt)))
@@ -106,10 +106,10 @@ rising r store (cancel n) = ours r store (cancel n)
 rising r store (release n) = ours r store (release n)
 
 rising-none : carried (answer rising (0 ∷ 2 ∷ []) 1) ≡ none
-unfolding tryNewOf receiveOf impossible allBelow sumTo emptySlots emptyLengths joined sameOctets wipedTo marked wordsOf sumBelow highestOf longer segmentAt
+unfolding knownProfile receiverInterval tryNewOf receiveOf impossible allBelow sumTo emptySlots emptyLengths joined sameOctets wipedTo marked wordsOf sumBelow highestOf longer segmentAt
 rising-none = refl
 
-pub rising-refuted : EveryOrderServed 300000 tryNewOf rising → ⊥
+pub rising-refuted : EveryOrderServed ownInterval tryNewOf rising → ⊥
 rising-refuted s = none-some _ 7 rising-none (served-so rising s .last (0 ∷ 2 ∷ []) 1 refl .0)
 
 -- an answer that says of no message that it has 0 octets
@@ -129,10 +129,10 @@ withEnd r store (cancel n) = ours r store (cancel n)
 withEnd r store (release n) = ours r store (release n)
 
 with-end-some : carried (answer withEnd (0 ∷ []) 2) ≡ some 0
-unfolding tryNewOf receiveOf impossible allBelow sumTo emptySlots emptyLengths joined sameOctets wipedTo marked wordsOf sumBelow highestOf longer segmentAt
+unfolding knownProfile receiverInterval tryNewOf receiveOf impossible allBelow sumTo emptySlots emptyLengths joined sameOctets wipedTo marked wordsOf sumBelow highestOf longer segmentAt
 with-end-some = refl
 
-pub with-end-refuted : EveryOrderServed 300000 tryNewOf withEnd → ⊥
+pub with-end-refuted : EveryOrderServed ownInterval tryNewOf withEnd → ⊥
 with-end-refuted s = none-some _ 0 (served-so withEnd s .no-other (0 ∷ []) 2 1 [] refl) with-end-some
 
 -- one that hands over again with a repeat
@@ -143,8 +143,8 @@ again r store (cancel n) = ours r store (cancel n)
 again r store (release n) = ours r store (release n)
 
 again-some : carried (answer again (0 ∷ 2 ∷ 1 ∷ []) 1) ≡ some 0
-unfolding tryNewOf receiveOf impossible allBelow sumTo emptySlots emptyLengths joined sameOctets wipedTo marked wordsOf sumBelow highestOf longer segmentAt
+unfolding knownProfile receiverInterval tryNewOf receiveOf impossible allBelow sumTo emptySlots emptyLengths joined sameOctets wipedTo marked wordsOf sumBelow highestOf longer segmentAt
 again-some = refl
 
-pub again-refuted : EveryOrderServed 300000 tryNewOf again → ⊥
+pub again-refuted : EveryOrderServed ownInterval tryNewOf again → ⊥
 again-refuted s = none-some _ 0 (served-so again s .not-again [] (λ k h. absurd (omega arith)) 1 (lit≤ tt)) again-some

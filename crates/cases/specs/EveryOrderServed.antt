@@ -17,9 +17,10 @@ use Rattle.orders.proofs.Laws.{hit-self}
 use Rattle.receiver.specs.Record.{storeOctets}
 use Rattle.receiver.specs.Advance.{tryNewOf}
 use Rattle.receiver.specs.declared.Terms.{Terms}
-use Rattle.delivery.specs.Calls.{Call, StepFunction, TryNewFunction, stepOf, carried}
+use Rattle.delivery.specs.Calls.{Call, StepFunction, TryNewFunction, ours, carried}
 use Rattle.delivery.specs.Delivery.{Brings, HasCome, AllHaveCome, Meets, DeliveryConditions, HandsOver, HandsOverExactly}
-use Rattle.delivery.specs.Demand.{TrainFor, SecondHalf}
+use Rattle.delivery.specs.Demand.{TrainFor, SecondHalf, SecondHalfAt}
+use Rattle.delivery.specs.Own.{ownInterval}
 use Rattle.delivery.specs.Theorem.{given-cutting, demand3}
 use Rattle.cases.specs.EveryOrder.{InTime, arrival, bringing, bringingFrom, received, Served, EveryOrderServed}
 
@@ -184,7 +185,7 @@ never (some k) f = absurd (f k refl)
 
 -- ---- the law
 
-module _ (interval : ℕ) (new : TryNewFunction) (step : StepFunction) (p : SecondHalf interval new step) (t : Terms) (made : ℕ) (e : new t made .refused ≡ none)
+module _ (interval : ℕ) (new : TryNewFunction) (step : StepFunction) (t : Terms) (p : SecondHalfAt interval new step t) (made : ℕ) (e : new t made .refused ≡ none)
     (store message : List ℕ) (count : ℕ) (segment : ℕ → WholeSegment) (train : TrainFor (t .«transaction_id») (t .version) message count segment)
     (fits : length message ≤ t .«maximum_message_octets») (stored : storeOctets ≤ length store)
     (clock : ℕ → ℕ) (in-time : InTime interval made count clock)
@@ -199,7 +200,7 @@ module _ (interval : ℕ) (new : TryNewFunction) (step : StepFunction) (p : Seco
   -- the second half, of a list under the conditions
   exactly : (before : List ℕ) (i : ℕ) → DeliveryConditions interval t made count segment [] (calls t segment clock out 0 (before ++ (i ∷ []))) → Exactly before i
   exactly before i m =
-      p t made e store message count segment train fits stored (calls t segment clock out 0 before) (call t segment clock out (length before) i)
+      p made e store message count segment train fits stored (calls t segment clock out 0 before) (call t segment clock out (length before) i)
       (subst (λ (cs : List Call). DeliveryConditions interval t made count segment [] cs) (one-more t segment clock out before i) m)
 
   part : (before : List ℕ) (i : ℕ) (rest : List ℕ) → IsOrder count (before ++ (i ∷ rest)) → ((s : ℕ) → 0 < occurs s (before ++ (i ∷ [])) → s < count) → Exactly before i
@@ -268,10 +269,10 @@ module _ (interval : ℕ) (new : TryNewFunction) (step : StepFunction) (p : Seco
         not-again = none-again o c;
       }
 
-pub every-order-served : (interval : ℕ) (new : TryNewFunction) (step : StepFunction) → SecondHalf interval new step → EveryOrderServed interval new step
+pub every-order-served : (interval : Terms → ℕ) (new : TryNewFunction) (step : StepFunction) → SecondHalf interval new step → EveryOrderServed interval new step
 every-order-served interval new step p t made e store message count segment train fits stored clock in-time out room o c =
-    served interval new step p t made e store message count segment train fits stored clock in-time out room o c
+    served (interval t) new step t (p t) made e store message count segment train fits stored clock in-time out room o c
 
--- ours
-pub ours-served : (interval : ℕ) → EveryOrderServed interval tryNewOf (stepOf interval)
-ours-served interval = every-order-served interval tryNewOf (stepOf interval) (demand3 interval .second-half)
+-- ours, at its own interval
+pub ours-served : EveryOrderServed ownInterval tryNewOf ours
+ours-served = every-order-served ownInterval tryNewOf ours (demand3 .second-half)

@@ -14,10 +14,11 @@ pub extern "C" fn catkhize_receiver_new(
     protocol_octet: u8,
     transaction: u8,
     version: u8,
+    profile: u8,
     maximum: u64,
     reading: u64,
 ) -> u32
-    ensures { λ r. ⌜ call r (now («record» .exit)) [] [] [] ≡ newCall (now («record» .entry)) «peer_kind» «peer_width» «peer_value» protocol «protocol_octet» transaction version maximum reading ⌝ }
+    ensures { λ r. ⌜ call r (now («record» .exit)) [] [] [] ≡ newCall (now («record» .entry)) «peer_kind» «peer_width» «peer_value» protocol «protocol_octet» transaction version profile maximum reading ⌝ }
 {
     receiver_c::catkhize_receiver_new(
         record,
@@ -28,6 +29,7 @@ pub extern "C" fn catkhize_receiver_new(
         protocol_octet,
         transaction,
         version,
+        profile,
         maximum,
         reading,
     )

@@ -17,10 +17,11 @@ pub extern "C" fn catkhize_sender_new(
     plan: &[u8],
     message: &[u8],
     version: u8,
+    profile: u8,
     number: u64,
     reading: u64,
 ) -> u32
-    ensures { λ r. ⌜ NewMet (newTests (now («record» .entry)) protocol (now (plan .entry))) (now («record» .entry)) (newStep (termsOf «peer_kind» «peer_width» «peer_value» protocol «protocol_octet» version number) (now (plan .entry)) (now (message .entry)) reading) (call r (now («record» .exit)) []) ⌝ }
+    ensures { λ r. ⌜ NewMet (newTests (now («record» .entry)) protocol (now (plan .entry))) (now («record» .entry)) (newStep (termsOf «peer_kind» «peer_width» «peer_value» protocol «protocol_octet» version profile number) (now (plan .entry)) (now (message .entry)) reading) (call r (now («record» .exit)) []) ⌝ }
 {
     sender_c::catkhize_sender_new(
         record,
@@ -32,6 +33,7 @@ pub extern "C" fn catkhize_sender_new(
         plan,
         message,
         version,
+        profile,
         number,
         reading,
     )

@@ -3,38 +3,40 @@
 -- and changes nothing, with 38 where document 01's tests before 38 pass; and that the store stays wiped whatever calls follow. Its refusals and their
 -- order are in receiver's proofs/Closing. Laws; they assume nothing.
 use Prim.Native.Nat.{ℕ, _≤_, _<_, min}
-use mathlib.Core.Path.{_≡_, refl, sym, ap, _∙_}
+use mathlib.Core.Path.{_≡_, refl, sym, ap, _∙_, subst}
 use mathlib.Core.List.{List, [], _∷_}
 use mathlib.Core.Bool.{Bool, true, false, cond, not, _&&_, _||_, false≢true, and-false}
 use mathlib.Core.Option.{Option, none, some}
 use native.Mathlib.Omega.{arith}
 use lib.ListN.{length, getD}
 use lib.Dec.{eqb, leb}
-use borrow.Author.Tests.{le-ltb, eq-eqb, le-leb}
+use borrow.Author.Tests.{le-ltb, eq-eqb, le-leb, not-false}
 use Rattle.octets.specs.Octets.{length-wiped, getD-wiped}
 use Rattle.words.specs.Marks.{marked, noMarks}
 use Rattle.words.specs.Laws.{marked-none}
 use Rattle.words.specs.Search.{allBelow-all}
 use Rattle.link.specs.Peer.{sameIdentity, sameProtocol}
+use Rattle.link.specs.Profile.{knownProfile}
 use Rattle.tsar.specs.Writing.{codecRows}
-use Rattle.tsar.specs.Rows.{Refusal, refusal, test, orElse, refusal-none, refusal-pass, refusal-append, any-pass}
+use Rattle.tsar.specs.Rows.{Refusal, refusal, test, orElse, refusal-none, refusal-pass, refusal-append, any-pass, any-none}
 use Rattle.receiver.specs.declared.ReceiverState.{ReceiverState}
 use Rattle.receiver.specs.declared.ReceiverState.the-variants.{AwaitingBegin, Receiving, Complete, Failed, Expired, Canceled}
 use Rattle.receiver.specs.declared.Terms.{Terms}
 use Rattle.receiver.specs.declared.Receiver.{Receiver}
-use Rattle.receiver.specs.Record.{taking, awaiting, receiving, complete, receivingOrComplete, isBegin, kindAt, gap, pastEnd, heldLength, emptyLengths, storeOctets, wiped, closed, faults, impossible}
+use Rattle.receiver.specs.Record.{intervalOf, taking, awaiting, receiving, complete, receivingOrComplete, isBegin, kindAt, gap, pastEnd, heldLength, emptyLengths, storeOctets, wiped, closed, faults, impossible}
 use Rattle.receiver.specs.Answers.{Step, answered, refuses}
 use Rattle.receiver.specs.Receive.{Arrival, receiveRows, receiveAfter, receiveOf}
 use Rattle.receiver.specs.Advance.{tryNewOf, cancelAfter, cancelOf, releaseOf}
 use Rattle.receiver.proofs.Closing.{releases, cancels}
-use Rattle.delivery.specs.Calls.{Call, cancel, release, Left, start, stepOf, then, after, isRefused, AllFitTypes}
+use Rattle.delivery.specs.Calls.{Call, cancel, release, Left, start, stepOf, ours, then, after, isRefused, AllFitTypes}
 use Rattle.delivery.specs.Demand.{stepAfter}
 use Rattle.delivery.specs.Lists.{never, sumTo-zero}
 use Rattle.delivery.specs.Invariant.{shut, start-inv}
-use Rattle.delivery.specs.Possible.{start-ready, after-both, possible}
+use Rattle.delivery.specs.Possible.{start-ready, after-both, profile-known, possible}
 use Rattle.delivery.specs.Steps.{store-length}
 use Rattle.delivery.specs.Rules.{Clocked, by-receive, by-cancel, by-release}
 use Rattle.delivery.specs.ProgressPasses.{_⨾_}
+use Rattle.delivery.specs.Own.{ownInterval, one-interval, one-interval-step, made-interval}
 use Rattle.delivery.specs.ProgressReleased.{stays-closed, stay-closed}
 use Rattle.delivery.specs.Occasions.{Emptied}
 use Rattle.delivery.specs.Wiping.{wipes, stores-stay, clean-then, closed-store}
@@ -103,10 +105,10 @@ module _ (interval : ℕ) (r : Receiver) (a : Arrival) (store out : List ℕ) (f
   pub closed-to-all : IsClosed interval a r store out
   closed-to-all = record { number = closed-refuses .0; refused-with = closed-refuses .1; closed-38 = gets-38 }
 
--- a closed record is none of 62's
-pub closed-possible : (r : Receiver) (s : ReceiverState) → taking s ≡ false → (now′ : ℕ) → impossible (closed r s now′) ≡ false
+-- a closed record of a known profile is none of 62's
+pub closed-possible : (r : Receiver) (s : ReceiverState) → taking s ≡ false → knownProfile (r .terms .profile) ≡ true → (now′ : ℕ) → impossible (closed r s now′) ≡ false
 unfolding impossible
-closed-possible r s f now′ =
+closed-possible r s f k now′ =
     any-pass (faults (closed r s now′))
     (ap not (allBelow-all 256 (λ t. leb (heldLength noMarks emptyLengths t) 255) (λ t h. le-leb _ _ (none-long t)))
     ⨾ ap not (eq-eqb _ _ (sym (sumTo-zero 256 (heldLength noMarks emptyLengths) (λ t h. rw (marked-none t)))))
@@ -116,6 +118,7 @@ closed-possible r s f now′ =
     ⨾ ap not (allBelow-all 256 (λ t. not (pastEnd (r .progress .«end_sequence») t && marked noMarks t)) (λ t h. none-past t))
     ⨾ and-false (not (receiving s))
     ⨾ ap (λ (b : Bool). b && gap noMarks (r .progress .«end_sequence»)) (shut s f .2)
+    ⨾ ap not k
     ⨾ tt)
   where
     none-long : (t : ℕ) → heldLength noMarks emptyLengths t ≤ 255
@@ -126,6 +129,11 @@ closed-possible r s f now′ =
 
     none-past : (t : ℕ) → not (pastEnd (r .progress .«end_sequence») t && marked noMarks t) ≡ true
     none-past t = rw (marked-none t) (ap not (and-false (pastEnd (r .progress .«end_sequence») t)))
+
+-- a record that is none of 62's is of a known profile
+possible-known : (r : Receiver) → impossible r ≡ false → knownProfile (r .terms .profile) ≡ true
+unfolding impossible
+possible-known r ok = not-false _ (any-none (faults r) ok 8)
 
 -- ---- when a release is not refused
 
@@ -144,7 +152,7 @@ complete-releases interval t made e store room cs f now′ l c =
     let w = after (stepOf interval) w₀ cs in
     let b = after-both interval t w₀ cs f (start-inv t made e store) (start-ready t made e) in
     ap (λ (st : Step). isRefused (st .answer))
-    (releases (w .receiver) (w .store) now′ (omega (arith, room, stores-length interval w₀ cs)) (possible t w (b .0) (b .1)) l c)
+    (releases (w .receiver) (w .store) now′ (omega (arith, room, stores-length interval w₀ cs)) (possible t w (b .0) (b .1) (profile-known t made e)) l c)
 
 -- ---- what a release that is not refused leaves
 
@@ -193,7 +201,7 @@ module _ (r : Receiver) (store : List ℕ) (now′ : ℕ) where
             refusal-pass (before38 (receiveRows interval (closed r Canceled now′) a (wiped store) out))
             (le-ltb (length (wiped store)) storeOctets (omega (arith, K .room, length-wiped storeOctets store))
             ⨾ t 1
-            ⨾ closed-possible r Canceled refl now′
+            ⨾ closed-possible r Canceled refl (possible-known r (K .possible)) now′
             ⨾ le-ltb _ _ l
             ⨾ t 4 ⨾ t 5 ⨾ t 6 ⨾ t 7 ⨾ t 8 ⨾ t 9 ⨾ t 10 ⨾ t 11 ⨾ t 12 ⨾ t 13
             ⨾ tt)
@@ -252,10 +260,52 @@ given-up interval t made e store room cs f now′ l =
     fair = omega (arith, room, stores-length interval w₀ cs)
 
     ok : impossible (w .receiver) ≡ false
-    ok = let b = after-both interval t w₀ cs f (start-inv t made e store) (start-ready t made e) in possible t w (b .0) (b .1)
+    ok = let b = after-both interval t w₀ cs f (start-inv t made e store) (start-ready t made e) in possible t w (b .0) (b .1) (profile-known t made e)
 
     shuts : (b o : Bool) → complete (w .receiver .progress .state) ≡ b → (awaiting (w .receiver .progress .state) || receiving (w .receiver .progress .state)) ≡ o
         → taking (stepOf interval (w .receiver) (w .store) (cond b (release now′) (cancel now′)) .receiver .progress .state) ≡ false
     shuts true o p q = ap (λ (st : Step). taking (st .receiver .progress .state)) (releases (w .receiver) (w .store) now′ fair ok l p)
     shuts false true p q = ap (λ (st : Step). taking (st .receiver .progress .state)) (cancels (w .receiver) (w .store) now′ fair ok l q)
     shuts false false p q = stays-closed interval (w .receiver) (w .store) (cancel now′) (neither-closed (w .receiver .progress .state) p q) .0
+
+-- ---- the same of ours
+
+pub own-complete-releases : (t : Terms) (made : ℕ) → tryNewOf t made .refused ≡ none → (store : List ℕ) → storeOctets ≤ length store → (cs : List Call) → AllFitTypes cs
+    → (now′ : ℕ) → after ours (start (tryNewOf t made .receiver) store) cs .receiver .progress .«last_monotonic_ms» ≤ now′
+    → complete (after ours (start (tryNewOf t made .receiver) store) cs .receiver .progress .state) ≡ true
+    → isRefused (stepAfter ours (after ours (start (tryNewOf t made .receiver) store) cs) (release now′) .answer) ≡ false
+own-complete-releases t made e store room cs f now′ l c =
+    let n = ownInterval t in
+    let w₀ = start (tryNewOf t made .receiver) store in
+    let A = one-interval n w₀ cs (made-interval t made e) in
+    ap (λ (st : Step). isRefused (st .answer)) (one-interval-step n w₀ cs (release now′) (made-interval t made e))
+    ∙ complete-releases n t made e store room cs f now′ (subst (λ (w : Left). w .receiver .progress .«last_monotonic_ms» ≤ now′) A l)
+    (sym (ap (λ (w : Left). complete (w .receiver .progress .state)) A) ∙ c)
+
+module _ (w : Left) (now′ : ℕ) (e : isRefused (releaseOf (w .receiver) (w .store) now′ .answer) ≡ false) (cs : List Call) where
+  abbrev left : Left
+  left = after ours w (release now′ ∷ cs)
+
+  same-way : left ≡ after (stepOf (intervalOf (w .receiver))) w (release now′ ∷ cs)
+  same-way = one-interval (intervalOf (w .receiver)) w (release now′ ∷ cs) refl
+
+  pub own-released-store : (i : ℕ) → i < storeOctets → getD (left .store) i 0 ≡ 0
+  own-released-store i h = ap (λ (v : Left). getD (v .store) i 0) same-way ∙ released-store (intervalOf (w .receiver)) w now′ e cs i h
+
+  pub own-released-refuses-later : (a : Arrival) (out : List ℕ) → IsClosed (intervalOf (left .receiver)) a (left .receiver) (left .store) out
+  own-released-refuses-later a out =
+      closed-to-all (intervalOf (left .receiver)) (left .receiver) a (left .store) out
+      (ap (λ (v : Left). taking (v .receiver .progress .state)) same-way
+      ∙ stay-closed (intervalOf (w .receiver)) (then (stepOf (intervalOf (w .receiver))) w (release now′)) cs (ap taking (release-leaves (w .receiver) (w .store) now′ e .canceled)) .0)
+
+pub own-given-up : (t : Terms) (made : ℕ) → tryNewOf t made .refused ≡ none → (store : List ℕ) → storeOctets ≤ length store → (cs : List Call) → AllFitTypes cs
+    → (now′ : ℕ) → after ours (start (tryNewOf t made .receiver) store) cs .receiver .progress .«last_monotonic_ms» ≤ now′
+    → GivenUp (stepAfter ours (after ours (start (tryNewOf t made .receiver) store) cs) (givingUp (after ours (start (tryNewOf t made .receiver) store) cs .receiver) now′))
+own-given-up t made e store room cs f now′ l =
+    let n = ownInterval t in
+    let w₀ = start (tryNewOf t made .receiver) store in
+    let A = one-interval n w₀ cs (made-interval t made e) in
+    subst GivenUp
+    (ap (λ (w : Left). stepAfter (stepOf n) (after (stepOf n) w₀ cs) (givingUp (w .receiver) now′)) (sym A)
+    ∙ sym (one-interval-step n w₀ cs (givingUp (after ours w₀ cs .receiver) now′) (made-interval t made e)))
+    (given-up n t made e store room cs f now′ (subst (λ (w : Left). w .receiver .progress .«last_monotonic_ms» ≤ now′) A l))

@@ -10,7 +10,7 @@ use Rattle.tsar.specs.Layout.{WholeSegment, whole}
 use Rattle.tsar.specs.Kinds.{isEnd}
 use Rattle.tsar.specs.Writing.{lengthIn}
 use Rattle.tsar.specs.declared.MessageLength.the-variants.{Stated}
-use Rattle.receiver.specs.Record.{isHeld, kindAt, lengthAt, part, receivingOrComplete}
+use Rattle.receiver.specs.Record.{intervalOf, isHeld, kindAt, lengthAt, part, receivingOrComplete}
 use Rattle.receiver.specs.Answers.{Answer, refused, answered, Step}
 use Rattle.receiver.specs.Receive.{Arrival, sequence, receiveOf}
 use Rattle.receiver.specs.Advance.{Made, advanceOf, cancelOf, releaseOf}
@@ -30,12 +30,16 @@ pub data Call : Type 0 where
 abbrev pub StepFunction : Type 0
 StepFunction = Receiver → List ℕ → Call → Step
 
--- that of our receiver: the definitions that the contracts of receive, advance, cancel and release cite
+-- the definitions that the contracts of receive, advance, cancel and release cite, with any interval
 abbrev pub stepOf : ℕ → StepFunction
 stepOf interval r store (receive a out) = receiveOf interval r a store out
 stepOf interval r store (advance n) = advanceOf r store n
 stepOf interval r store (cancel n) = cancelOf r store n
 stepOf interval r store (release n) = releaseOf r store n
+
+-- that of our receiver, as these contracts have it: the interval is the record's own
+abbrev pub ours : StepFunction
+ours r store c = stepOf (intervalOf r) r store c
 
 -- what some try_new gives for terms and a reading; tryNewOf is ours
 abbrev pub TryNewFunction : Type 0

@@ -56,11 +56,11 @@ pub data TrainFor (transaction version : ℕ) (message : List ℕ) : ℕ → (�
       → TrainFor transaction version message count
       (frozenTrainOf (frozenOf (record { heads = heads; count = count; joined = joined; message = message; budget = budget; version = version; ceiling = ceiling })) message)
 
--- for every such train of a message within the maximum, under the transaction and the version that try_new was given, and every list of calls under
--- the delivery conditions: of each call of it
-abbrev pub SecondHalf : ℕ → TryNewFunction → StepFunction → Type 0
-SecondHalf interval new step =
-    (t : Terms) (made : ℕ) → new t made .refused ≡ none
+-- of receivers of the terms t, with an interval in the delivery conditions: for every such train of a message within the maximum, under the transaction
+-- and the version that try_new was given, and every list of calls under the delivery conditions: of each call of it
+abbrev pub SecondHalfAt : ℕ → TryNewFunction → StepFunction → Terms → Type 0
+SecondHalfAt interval new step t =
+    (made : ℕ) → new t made .refused ≡ none
     → (store message : List ℕ) (count : ℕ) (segment : ℕ → WholeSegment)
     → TrainFor (t .«transaction_id») (t .version) message count segment
     → length message ≤ t .«maximum_message_octets» → storeOctets ≤ length store
@@ -68,8 +68,12 @@ SecondHalf interval new step =
     → DeliveryConditions interval t made count segment [] (cs ++ (c ∷ []))
     → HandsOverExactly count segment message cs c (stepAfter step (after step (start (new t made .receiver) store) cs) c)
 
+-- of receivers of all terms, each with its own interval
+abbrev pub SecondHalf : (Terms → ℕ) → TryNewFunction → StepFunction → Type 0
+SecondHalf interval new step = (t : Terms) → SecondHalfAt (interval t) new step t
+
 -- of a receiver that is given by what try_new gives and by its step function
-pub record Demand3 (interval : ℕ) (new : TryNewFunction) (step : StepFunction) : Type 0 where
+pub record Demand3 (interval : Terms → ℕ) (new : TryNewFunction) (step : StepFunction) : Type 0 where
   pub first-half : FirstHalf new step
   pub second-half : SecondHalf interval new step
 

@@ -9,6 +9,7 @@ use lib.ListN.{replicate}
 use lib.Dec.{lit≤}
 use Rattle.octets.specs.Octets.{wipedTo, sameOctets}
 use Rattle.words.specs.Marks.{marked, sumBelow, wordsOf, allBelow, highestOf}
+use Rattle.link.specs.Profile.{knownProfile, receiverInterval}
 use Rattle.tsar.specs.Kinds.{isExceptions}
 use Rattle.tsar.specs.Layout.{WholeSegment}
 use Rattle.tsar.specs.declared.AcknowledgmentWindow.the-variants as window
@@ -18,9 +19,10 @@ use Rattle.receiver.specs.Record.{sumTo, emptySlots, emptyLengths, joined, impo
 use Rattle.receiver.specs.Answers.{Step, refuses}
 use Rattle.receiver.specs.Receive.{kind, receiveOf}
 use Rattle.receiver.specs.Advance.{tryNewOf}
-use Rattle.delivery.specs.Calls.{receive, advance, cancel, release, StepFunction, stepOf, start, after, carried}
+use Rattle.delivery.specs.Calls.{receive, advance, cancel, release, StepFunction, ours, start, after, carried}
 use Rattle.delivery.specs.Delivery.{HandsOver}
 use Rattle.delivery.specs.Demand.{SecondHalf, TrainFor, frozen, stepAfter, frozenTrainOf}
+use Rattle.delivery.specs.Own.{ownInterval}
 use Rattle.delivery.specs.Witness.{terms₀, store₀, room, new-made}
 use Rattle.delivery.specs.InOrder.{in-order, bringing, bringingTo}
 use Rattle.delivery.specs.Refuted.{none-some}
@@ -47,9 +49,6 @@ exceptions-begin = refl
 
 -- ---- what is answered to its End, behind its Begin
 
-abbrev ours : StepFunction
-ours = stepOf 300000
-
 abbrev output : List ℕ
 output = replicate 10 165
 
@@ -57,7 +56,7 @@ abbrev endStep : StepFunction → Step
 endStep step = stepAfter step (after step (start (tryNewOf terms₀ 0 .receiver) store₀) (bringingTo terms₀ 0 train output 1)) (bringing terms₀ 0 train output 1)
 
 pub exceptions-handed : HandsOver (endStep ours) message
-unfolding tryNewOf receiveOf impossible allBelow sumTo emptySlots emptyLengths joined sameOctets wipedTo marked wordsOf sumBelow highestOf frozenSegmentAt keptHeads dataBefore bringingTo
+unfolding knownProfile receiverInterval tryNewOf receiveOf impossible allBelow sumTo emptySlots emptyLengths joined sameOctets wipedTo marked wordsOf sumBelow highestOf frozenSegmentAt keptHeads dataBefore bringingTo
 exceptions-handed = (refl, refl)
 
 -- ---- ours, but a Begin that asks for the window is refused
@@ -69,10 +68,11 @@ refusesExceptions r store (cancel n) = ours r store (cancel n)
 refusesExceptions r store (release n) = ours r store (release n)
 
 none-handed : carried (endStep refusesExceptions .answer) ≡ none
-unfolding tryNewOf receiveOf impossible allBelow sumTo emptySlots emptyLengths joined sameOctets wipedTo marked wordsOf sumBelow highestOf frozenSegmentAt keptHeads dataBefore bringingTo
+unfolding knownProfile receiverInterval tryNewOf receiveOf impossible allBelow sumTo emptySlots emptyLengths joined sameOctets wipedTo marked wordsOf sumBelow highestOf frozenSegmentAt keptHeads dataBefore bringingTo
 none-handed = refl
 
-pub refuses-exceptions-refuted : SecondHalf 300000 tryNewOf refusesExceptions → ⊥
+pub refuses-exceptions-refuted : SecondHalf ownInterval tryNewOf refusesExceptions → ⊥
+unfolding receiverInterval
 refuses-exceptions-refuted p =
-    let h = in-order 300000 (lit≤ tt) tryNewOf refusesExceptions p terms₀ 0 new-made (lit≤ tt) store₀ message 2 train exceptions-served (lit≤ tt) room output (lit≤ tt) in
+    let h = in-order (ownInterval terms₀) (lit≤ tt) tryNewOf refusesExceptions terms₀ (p terms₀) 0 new-made (lit≤ tt) store₀ message 2 train exceptions-served (lit≤ tt) room output (lit≤ tt) in
     none-some _ 7 none-handed (h .0)

@@ -16,7 +16,7 @@ use Rattle.receiver.specs.Record.{storeOctets}
 use Rattle.receiver.specs.declared.Terms.{Terms}
 use Rattle.delivery.specs.Calls.{Call, receive, advance, cancel, release, StepFunction, TryNewFunction, start, after}
 use Rattle.delivery.specs.Delivery.{Brings, HasCome, Meets, DeliveryConditions, HandsOver}
-use Rattle.delivery.specs.Demand.{TrainFor, SecondHalf, stepAfter}
+use Rattle.delivery.specs.Demand.{TrainFor, SecondHalfAt, stepAfter}
 use Rattle.delivery.specs.ProgressAll.{latestFirst}
 use Rattle.delivery.specs.Train.{headOf}
 use Rattle.delivery.specs.Theorem.{given-cutting}
@@ -140,14 +140,14 @@ module _ (t : Terms) (made : ℕ) (segment : ℕ → WholeSegment) (out : List �
 -- ---- the law
 
 -- the message of every train that is given is handed over with the last segment, where the reading of try_new is at most 2^64 - 1 - interval
-pub in-order : (interval : ℕ) → 0 < interval → (new : TryNewFunction) (step : StepFunction) → SecondHalf interval new step
-    → (t : Terms) (made : ℕ) → new t made .refused ≡ none → made ≤ 2 ^ 64 - 1 - interval
+pub in-order : (interval : ℕ) → 0 < interval → (new : TryNewFunction) (step : StepFunction) (t : Terms) → SecondHalfAt interval new step t
+    → (made : ℕ) → new t made .refused ≡ none → made ≤ 2 ^ 64 - 1 - interval
     → (store message : List ℕ) (count : ℕ) (segment : ℕ → WholeSegment) → TrainFor (t .«transaction_id») (t .version) message count segment
     → length message ≤ t .«maximum_message_octets» → storeOctets ≤ length store
     → (out : List ℕ) → min (t .«maximum_message_octets») storeOctets ≤ length out
     → HandsOver (stepAfter step (after step (start (new t made .receiver) store) (bringingTo t made segment out (count - 1))) (bringing t made segment out (count - 1))) message
 unfolding bringingTo
-in-order interval positive new step p t made e low store message count segment T fits room out long = go (count - 1) refl (omega (arith, cutting .at-least))
+in-order interval positive new step t p made e low store message count segment T fits room out long = go (count - 1) refl (omega (arith, cutting .at-least))
   where
     cutting : Cutting message (t .«transaction_id») count segment
     cutting = given-cutting (t .«transaction_id») (t .version) message count segment T
@@ -155,7 +155,7 @@ in-order interval positive new step p t made e low store message count segment T
     go : (k : ℕ) → count - 1 ≡ k → suc k ≡ count
         → HandsOver (stepAfter step (after step (start (new t made .receiver) store) (bringingTo t made segment out k)) (bringing t made segment out k)) message
     go k q f =
-        p t made e store message count segment T fits room (bringingTo t made segment out k) (bringing t made segment out k)
+        p made e store message count segment T fits room (bringingTo t made segment out k) (bringing t made segment out k)
         (conditions t made segment out interval count positive low long (cutting .one-transaction) (suc k) (omega arith)) .when
         (λ i h. come t made segment out (suc k) i (omega arith))
         (λ a.

@@ -3,7 +3,7 @@ use Prim.Native.Nat.{ℕ, _*_, _≤_, _<_}
 use mathlib.Core.Path.{_≡_, refl, sym, ap, _∙_, subst}
 use mathlib.Core.List.{List, [], _∷_}
 use mathlib.Core.Bool.{Bool, true, false, _||_, false≢true, and-false}
-use mathlib.Core.Option.{Option, none, some}
+use mathlib.Core.Option.{none}
 use native.Mathlib.Omega.{arith}
 use lib.ListN.{length, length-set, length-replicate}
 use lib.Seq.{sets}
@@ -12,7 +12,6 @@ use borrow.Author.Tests.{not-false}
 use Rattle.words.specs.Marks.{marked, noMarks}
 use Rattle.words.specs.Laws.{marked-none}
 use Rattle.words.specs.declared.Words.{Words}
-use Rattle.tsar.specs.Rows.{Refusal, refusal}
 use Rattle.tsar.specs.Layout.{WholeSegment}
 use Rattle.tsar.specs.Kinds.{statesOther}
 use Rattle.tsar.specs.declared.MessageLength.{MessageLength}
@@ -27,7 +26,8 @@ use Rattle.receiver.specs.declared.Receiver.{Receiver}
 use Rattle.receiver.specs.Record.{taking, awaiting, receiving, complete, receivingOrComplete, otherEnd, noSlot, heldLength, emptySlots, emptyLengths, slotOctets, fullWith}
 use Rattle.receiver.specs.Answers.{Step}
 use Rattle.receiver.specs.Receive.{Arrival, sequence, kind, settle, kept, Stage, before, begun, noted, keeping, fails, repeats, keeps, finishes}
-use Rattle.receiver.specs.Advance.{empty, madeAfter, tryNewRows, tryNewOf, fires}
+use Rattle.receiver.specs.Advance.{Made, empty, tryNewOf, fires}
+use Rattle.receiver.proofs.Making.{makes}
 use Rattle.delivery.specs.Calls.{Call, receive, advance, cancel, release, Left, find, absent, brought, total, HandOver, AllOfAccepted, start, stepOf, after, then, taken, FitsTypes, AllFitTypes}
 use Rattle.delivery.specs.Demand.{FirstHalf}
 use Rattle.delivery.specs.Lists.{never, or-right, and-rest, sumTo-zero}
@@ -250,12 +250,7 @@ after-inv interval t w (c ∷ cs) h I = after-inv interval t (then (stepOf inter
 
 -- where try_new refuses nothing, its record is the empty one
 pub made-is : (t : Terms) (made : ℕ) → tryNewOf t made .refused ≡ none → tryNewOf t made .receiver ≡ empty t AwaitingBegin made
-unfolding tryNewOf
-made-is t made e = go (refusal (tryNewRows t)) e
-  where
-    go : (v : Option Refusal) → madeAfter v t made .refused ≡ none → madeAfter v t made .receiver ≡ empty t AwaitingBegin made
-    go (some n) f = absurd (let z : _≡_ {A = ℕ} 0 1 = cc in omega arith)
-    go none f = refl
+made-is t made e = ap (λ (m : Made). m .receiver) (makes t made e)
 
 -- the empty record has it
 fresh-inv : (t : Terms) (made : ℕ) (store : List ℕ) → InvOf t (start (empty t AwaitingBegin made) store)

@@ -27,11 +27,11 @@ use Rattle.receiver.specs.declared.EndSequence.the-variants as end
 use Rattle.receiver.specs.declared.Deadline.{Deadline}
 use Rattle.receiver.specs.declared.Deadline.the-variants as deadline
 use Rattle.receiver.specs.declared.Receiver.{Receiver}
-use Rattle.receiver.specs.Record.{taking, awaiting, receiving, running, complete, late, due, slotOctets, storeOctets, isHeld, heldLength, part, wiped, fullWith, joined, faults, impossible}
+use Rattle.receiver.specs.Record.{intervalOf, taking, awaiting, receiving, running, complete, late, due, slotOctets, storeOctets, isHeld, heldLength, part, wiped, fullWith, joined, faults, impossible}
 use Rattle.receiver.specs.Answers.{Answer, refused, answered, Step, refuses, lastEntry}
 use Rattle.receiver.specs.Receive.{Arrival, sequence, kind, receiveRows, slotRules, settle, lateOr, receiveAfter, receiveOf, Outcome, fails, repeats, closes, keeps, finishes}
 use Rattle.receiver.specs.Advance.{clockRows, fires, advanceAfter, advanceOf, cancelOf, releaseOf}
-use Rattle.delivery.specs.Calls.{Call, receive, advance, cancel, release, stepOf, FitsTypes}
+use Rattle.delivery.specs.Calls.{Call, receive, advance, cancel, release, stepOf, ours, FitsTypes}
 use Rattle.delivery.specs.Lists.{never, holding, marked-here, marked-other, part-same}
 use Rattle.delivery.specs.Rules.{Admitted, New, Clocked, endWith, fills, by-rules, by-receive, by-advance, by-cancel, by-release}
 use Rattle.delivery.specs.Leaves.{lent, Unchanged, LateClosed, UnheldClosed, Excepted, RefusedLeaves, TimerDueLeaves, Filled, NewlyHeld, HeldFills, Wiped, ClosedWipes, Fills, StoreLeft, handed, OutputLeft, HandedMost, Leaves}
@@ -413,7 +413,7 @@ handed-most interval r store (advance m) t = by-advance (λ st. handed (st .answ
 handed-most interval r store (cancel m) t = by-cancel (λ st. handed (st .answer) ≤ storeOctets) r store m (λ n e. omega arith) (λ K s. omega arith)
 handed-most interval r store (release m) t = by-release (λ st. handed (st .answer) ≤ storeOctets) r store m (λ n e. omega arith) (λ K s. omega arith)
 
--- what any call on our receiver leaves, for any interval
+-- what any call on a receiver leaves, for any interval
 pub leaves : (interval : ℕ) → Leaves (stepOf interval)
 leaves interval =
     record {
@@ -424,4 +424,17 @@ leaves interval =
       store-left = store-left interval;
       output-left = output-left interval;
       handed-most = handed-most interval;
+    }
+
+-- and ours, at its own
+pub own-leaves : Leaves ours
+own-leaves =
+    record {
+      refused-leaves = λ r. refused-leaves (intervalOf r) r;
+      timer-due-leaves = λ r. timer-due-leaves (intervalOf r) r;
+      held-fills = λ r. held-fills (intervalOf r) r;
+      closed-wipes = λ r. closed-wipes (intervalOf r) r;
+      store-left = λ r. store-left (intervalOf r) r;
+      output-left = λ r. output-left (intervalOf r) r;
+      handed-most = λ r. handed-most (intervalOf r) r;
     }

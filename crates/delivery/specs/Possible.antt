@@ -3,15 +3,16 @@ use Prim.Native.Nat.{ℕ, suc, _≤_, _<_}
 use mathlib.Core.Path.{_≡_, refl, sym, ap, _∙_, subst}
 use mathlib.Core.List.{List, [], _∷_}
 use mathlib.Core.Bool.{Bool, true, false, cond, not, _&&_, _||_, false≢true, and-false}
-use mathlib.Core.Option.{some}
+use mathlib.Core.Option.{Option, none, some}
 use native.Mathlib.Omega.{arith}
 use native.Mathlib.Decide.{ℕ-discrete}
 use lib.Dec.{eqb, ltb, leb}
-use borrow.Author.Tests.{ltb-true, le-ltb, le-leb, eq-eqb}
+use borrow.Author.Tests.{ltb-true, le-ltb, le-leb, eq-eqb, not-false}
 use Rattle.words.specs.Marks.{marked, allBelow}
 use Rattle.words.specs.Search.{allBelow-true, allBelow-all, allBelow-false}
 use Rattle.words.specs.declared.Words.{Words}
-use Rattle.tsar.specs.Rows.{Refusal, firstOf, refusal, any-pass}
+use Rattle.link.specs.Profile.{knownProfile}
+use Rattle.tsar.specs.Rows.{Refusal, firstOf, refusal, refusal-none, any-pass}
 use Rattle.tsar.specs.Kinds.{isBegin, isEnd}
 use Rattle.receiver.specs.declared.EndSequence.{EndSequence}
 use Rattle.receiver.specs.declared.EndSequence.the-variants as end
@@ -20,7 +21,7 @@ use Rattle.receiver.specs.declared.Receiver.{Receiver}
 use Rattle.receiver.specs.Record.{taking, receiving, complete, receivingOrComplete, running, pastEnd, kindAt, heldLength, sumTo, gap, faults, impossible}
 use Rattle.receiver.specs.Answers.{Answer, refused, answered, Step}
 use Rattle.receiver.specs.Receive.{Arrival, receiveRows, slotRules, settle, Outcome, fails, repeats, closes, keeps, finishes}
-use Rattle.receiver.specs.Advance.{tryNewOf, clockRows, fires, cancelRows, releaseRows}
+use Rattle.receiver.specs.Advance.{madeAfter, tryNewRows, tryNewOf, clockRows, fires, cancelRows, releaseRows}
 use Rattle.delivery.specs.Calls.{Call, receive, advance, cancel, release, Left, start, stepOf, after}
 use Rattle.delivery.specs.Demand.{NoneRefusedWith62}
 use Rattle.delivery.specs.Lists.{never, sumTo-zero}
@@ -34,6 +35,15 @@ pub use Rattle.delivery.specs.Ready.{filled, Ready, ReadyOf, receive-rea
 filled-gap : (held : Words) (z : EndSequence) → filled held z ≡ true → gap held z ≡ false
 filled-gap held end.Unknown e = absurd (false≢true e)
 filled-gap held (end.At e) f = ap not (allBelow-all e (marked held) (λ i l. allBelow-true (suc e) (marked held) f i (omega arith)))
+
+-- what try_new makes is of a known profile: it passed 64
+pub profile-known : (t : Terms) (made : ℕ) → tryNewOf t made .refused ≡ none → knownProfile (t .profile) ≡ true
+unfolding tryNewOf
+profile-known t made e = not-false _ (refusal-none (tryNewRows t) (passed (refusal (tryNewRows t)) e) 2)
+  where
+    passed : (v : Option Refusal) → madeAfter v t made .refused ≡ none → v ≡ none
+    passed (some n) f = f
+    passed none f = refl
 
 -- ---- none of 62's tests holds
 
@@ -116,10 +126,14 @@ module _ (t : Terms) (w : Left) (I : InvOf t w) (S : ReadyOf (w .receiver)) wher
       go true e = filled-gap (q .held) (q .progress .«end_sequence») (S .full e)
       go false e = refl
 
+  -- the profile is one of the two, as try_new's was
+  known : knownProfile (t .profile) ≡ true → not (knownProfile (q .terms .profile)) ≡ false
+  known k = ap not (ap (λ (z : Terms). knownProfile (z .profile)) (I .same) ∙ k)
+
   -- a reached record is none of 62's
-  pub possible : impossible q ≡ false
+  pub possible : knownProfile (t .profile) ≡ true → impossible q ≡ false
   unfolding impossible
-  possible = any-pass (faults q) (
+  possible k = any-pass (faults q) (
     ap not (allBelow-all 256 (λ t. leb (heldLength (q .held) (q .lengths) t) 255) (λ t h. le-leb (heldLength (q .held) (q .lengths) t) 255 (lengths-small t h))),
     (
       ap not (eq-eqb _ _ sum-is),
@@ -135,7 +149,10 @@ module _ (t : Terms) (w : Left) (I : InvOf t w) (S : ReadyOf (w .receiver)) wher
                 idle-else,
                 (
                   no-gap,
-                  tt,
+                  (
+                    known k,
+                    tt,
+                  ),
                 ),
               ),
             ),
@@ -225,4 +242,4 @@ pub never-62 : (interval : ℕ) → NoneRefusedWith62 tryNewOf (stepOf interval)
 never-62 interval t made e store cs h c f =
     let w = after (stepOf interval) (start (tryNewOf t made .receiver) store) cs in
     let b = after-both interval t (start (tryNewOf t made .receiver) store) cs h (start-inv t made e store) (start-ready t made e) in
-    no-62 interval (w .receiver) (w .store) (possible t w (b .0) (b .1)) c (ap numberOf f)
+    no-62 interval (w .receiver) (w .store) (possible t w (b .0) (b .1) (profile-known t made e)) c (ap numberOf f)

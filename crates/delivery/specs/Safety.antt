@@ -11,9 +11,10 @@ use Rattle.segmentation.specs.Cutting.{Cutting}
 use Rattle.receiver.specs.Answers.{Step}
 use Rattle.receiver.specs.Receive.{sequence}
 use Rattle.receiver.specs.Advance.{tryNewOf}
-use Rattle.delivery.specs.Calls.{Call, receive, advance, cancel, release, Left, HandOver, StepFunction, TryNewFunction, stepOf, find, absent, brought, isRefused, hasFailed, addAccepted, addHanded, carried, then, after, start, AllOfAccepted, AllFitTypes}
+use Rattle.delivery.specs.Calls.{Call, receive, advance, cancel, release, Left, HandOver, StepFunction, TryNewFunction, stepOf, ours, find, absent, brought, isRefused, hasFailed, addAccepted, addHanded, carried, then, after, start, AllOfAccepted, AllFitTypes}
 use Rattle.delivery.specs.Demand.{FirstHalf, Safety, BringsOf, AllBringOf, AllHand}
 use Rattle.delivery.specs.Invariant.{after-the-list}
+use Rattle.delivery.specs.Own.{own-first-half}
 use Rattle.delivery.specs.Train.{OfTrain, of-train-more, train-message}
 
 module _ (message : List ℕ) (transaction count : ℕ) (segment : ℕ → WholeSegment) (C : Cutting message transaction count segment) where
@@ -67,6 +68,10 @@ first-half-safe new step first t made ok store message transaction count segment
     (first t made ok store cs (fit-types message transaction count segment C cs b) .messages)
     (after-of message transaction count segment C step (start (new t made .receiver) store) cs b (λ s x f. absurd (let z : _≡_ {A = ℕ} 0 1 = cc in omega arith)) tt)
 
--- ours is
-pub safety : (interval : ℕ) → Safety tryNewOf (stepOf interval)
-safety interval = first-half-safe tryNewOf (stepOf interval) (after-the-list interval)
+-- with any interval
+pub safety-at : (interval : ℕ) → Safety tryNewOf (stepOf interval)
+safety-at interval = first-half-safe tryNewOf (stepOf interval) (after-the-list interval)
+
+-- and ours
+pub safety : Safety tryNewOf ours
+safety = first-half-safe tryNewOf ours own-first-half

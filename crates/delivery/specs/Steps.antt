@@ -1,4 +1,4 @@
--- What a single call answers and leaves, on any record and store: when it answers Received, the store's length, the last reading.
+-- What a single call answers and leaves, on any record and store: when it answers Received, the store's length, the last reading, the terms.
 use Prim.Native.Nat.{ℕ, _+_, _*_, _≤_}
 use mathlib.Core.Path.{_≡_, refl, sym, ap, _∙_}
 use mathlib.Core.Logic.{_⊎_, inl, inr}
@@ -20,11 +20,12 @@ use Rattle.response.specs.declared.Response.{Response}
 use Rattle.receiver.specs.declared.ReceiverState.{ReceiverState}
 use Rattle.receiver.specs.declared.ReceiverState.the-variants.{AwaitingBegin, Receiving, Complete, Failed, Expired, Canceled}
 use Rattle.receiver.specs.declared.Deadline.the-variants as deadline
+use Rattle.receiver.specs.declared.Terms.{Terms}
 use Rattle.receiver.specs.declared.Receiver.{Receiver}
 use Rattle.receiver.specs.declared.Reported.{Reported}
 use Rattle.receiver.specs.Record.{complete, storeOctets, slotOctets}
 use Rattle.receiver.specs.Answers.{Answer, refused, answered, Step, respond, required, requiredResponse, listedIn, failResponse}
-use Rattle.receiver.specs.Receive.{Arrival, sequence, slotRules, settle, kept, atStage, Stage, Outcome, fails, repeats, closes, keeps, finishes}
+use Rattle.receiver.specs.Receive.{Arrival, sequence, slotRules, settle, kept, atStage, Stage, before, begun, noted, keeping, Outcome, fails, repeats, closes, keeps, finishes}
 use Rattle.receiver.specs.Advance.{fires}
 use Rattle.delivery.specs.Calls.{Call, receive, advance, cancel, release, stepOf}
 use Rattle.delivery.specs.Delivery.{reading}
@@ -179,3 +180,32 @@ last-reading interval r store (advance now′) = by-advance (Reads (r .progress 
     fired l true false = inr (refl, l)
 last-reading interval r store (cancel now′) = by-cancel (Reads (r .progress .«last_monotonic_ms») now′) r store now′ (λ n e. inl refl) (λ K s. inr (refl, K .not-back))
 last-reading interval r store (release now′) = by-release (Reads (r .progress .«last_monotonic_ms») now′) r store now′ (λ n e. inl refl) (λ K s. inr (refl, K .not-back))
+
+-- ---- the terms
+
+-- a step leaves the terms t
+abbrev Has-terms : Terms → Step → Type 0
+Has-terms t st = st .receiver .terms ≡ t
+
+-- a call leaves the terms as they were, the profile among them, whatever record it is made on
+pub terms-kept : (interval : ℕ) (r : Receiver) (store : List ℕ) (c : Call) → stepOf interval r store c .receiver .terms ≡ r .terms
+terms-kept interval r store (receive a o) =
+    by-receive (Has-terms (r .terms)) interval r a store o (λ n e. refl) (λ A. refl) refl (λ A. settled (firstOf (slotRules r a store) keeps))
+  where
+    settled : (out : Outcome) → Has-terms (r .terms) (settle interval out r a store o)
+    settled (fails before s) = refl
+    settled (fails begun s) = refl
+    settled (fails noted s) = refl
+    settled (fails keeping s) = refl
+    settled repeats = refl
+    settled closes = refl
+    settled keeps = refl
+    settled finishes = refl
+terms-kept interval r store (advance now′) = by-advance (Has-terms (r .terms)) r store now′ (λ n e. refl) (λ K b p e f. fired b p)
+  where
+    fired : (b p : Bool) → Has-terms (r .terms) (fires b p r store now′)
+    fired false p = refl
+    fired true true = refl
+    fired true false = refl
+terms-kept interval r store (cancel now′) = by-cancel (Has-terms (r .terms)) r store now′ (λ n e. refl) (λ K s. refl)
+terms-kept interval r store (release now′) = by-release (Has-terms (r .terms)) r store now′ (λ n e. refl) (λ K s. refl)

@@ -1,4 +1,4 @@
--- Demand 3 holds of the receiver, and none of its calls is refused with 62.
+-- Demand 3 holds of the receiver, for any interval and so for that of each profile, and none of its calls is refused with 62.
 use Prim.Native.Nat.{ℕ, _≤_, _<_}
 use mathlib.Core.Path.{_≡_, refl, sym, ap, _∙_, subst}
 use mathlib.Core.Logic.{_⊎_, inl, inr}
@@ -7,6 +7,7 @@ use mathlib.Core.Option.{Option, none, some}
 use native.Mathlib.Omega.{arith}
 use lib.ListN.{length, take, drop, length-drop}
 use lib.Seq.{length-take-le}
+use Rattle.link.specs.Profile.{receiverInterval}
 use Rattle.tsar.specs.Rows.{refusal}
 use Rattle.tsar.specs.Layout.{WholeSegment}
 use Rattle.tsar.specs.Writing.{codecRows}
@@ -20,17 +21,18 @@ use Rattle.segmentation.specs.declared.PlannedSegment.{PlannedSegment}
 use Rattle.receiver.specs.declared.Terms.{Terms}
 use Rattle.receiver.specs.declared.Receiver.{Receiver}
 use Rattle.receiver.specs.Record.{storeOctets}
-use Rattle.receiver.specs.Answers.{Step}
+use Rattle.receiver.specs.Answers.{Step, refused}
 use Rattle.receiver.specs.Advance.{tryNewOf}
-use Rattle.delivery.specs.Calls.{Call, receive, advance, cancel, release, Left, HandOver, start, after, then, stepOf, carried, addAccepted, addHanded, AllOfAccepted}
+use Rattle.delivery.specs.Calls.{Call, receive, advance, cancel, release, Left, HandOver, start, after, then, stepOf, ours, carried, addAccepted, addHanded, AllOfAccepted}
 use Rattle.delivery.specs.Delivery.{HasCome, AllHaveCome, DeliveryConditions, HandsOver, HandsOverExactly}
-use Rattle.delivery.specs.Demand.{Demand3, NoneRefusedWith62, stepAfter, givenSegment, trainOf, frozenTrainOf, TrainFor, planned, evenly, frozen}
+use Rattle.delivery.specs.Demand.{Demand3, SecondHalf, NoneRefusedWith62, stepAfter, givenSegment, trainOf, frozenTrainOf, TrainFor, planned, evenly, frozen}
 use Rattle.tsar.specs.Layout.{whole}
 use Rattle.segmentation.specs.Cutting.{Cutting}
 use Rattle.segmentation.specs.Frozen.{Proposal, proposed, headAt, dataBefore, frozenRefusal, frozenOf}
 use Rattle.segmentation.specs.Accepted.{Acceptable, frozen-acceptable, joined-message, cut-within, frozen-segment}
 use Rattle.delivery.specs.Invariant.{made-is, start-inv, after-the-list}
-use Rattle.delivery.specs.Possible.{start-ready, after-both, possible, never-62}
+use Rattle.delivery.specs.Possible.{start-ready, after-both, profile-known, possible, never-62}
+use Rattle.delivery.specs.Own.{own-first-half, one-interval-step, made-interval}
 use Rattle.delivery.specs.Train.{Train, headOf}
 use Rattle.delivery.specs.Progress.{HoldingOf, holding-start}
 use Rattle.delivery.specs.ProgressAll.{Known, Delivered, latestFirst, after-append, train-delivered}
@@ -216,7 +218,7 @@ known T e store =
       listed = after-the-list (T .interval) (T .terms) (T .made) e store;
       possible = λ cs f.
           let b = after-both (T .interval) (T .terms) w₀ cs f (start-inv (T .terms) (T .made) e store) (start-ready (T .terms) (T .made) e) in
-          possible (T .terms) (after (stepOf (T .interval)) w₀ cs) (b .0) (b .1);
+          possible (T .terms) (after (stepOf (T .interval)) w₀ cs) (b .0) (b .1) (profile-known (T .terms) (T .made) e);
     }
 
 -- for every train, plan_message's or another
@@ -253,6 +255,7 @@ given-cutting transaction version message _ _ T = go T
           protocol = Segmented 0;
           «transaction_id» = transaction;
           version = version;
+          profile = 1;
           «maximum_message_octets» = length message;
         }
 
@@ -262,13 +265,31 @@ given-cutting transaction version message _ _ T = go T
     go (frozen heads count joined budget ceiling same ok) =
         frozenTrain 0 terms 0 (record { heads = heads; count = count; joined = joined; message = message; budget = budget; version = version; ceiling = ceiling }) same refl ok (omega arith) .cutting
 
--- the receiver meets demand 3, whatever its interval is
-pub demand3 : (interval : ℕ) → Demand3 interval tryNewOf (stepOf interval)
-demand3 interval = record {
+-- a receiver with one interval for all its calls meets demand 3, whatever that is
+pub demand3-at : (interval : ℕ) → Demand3 (λ t. interval) tryNewOf (stepOf interval)
+demand3-at interval = record {
   first-half = after-the-list interval;
   second-half = given-exactly interval;
 }
 
+-- ours, at the interval of the terms that try_new is given
+second : SecondHalf (λ t. receiverInterval (t .profile)) tryNewOf ours
+second t made e store message count segment given fits room cs c D =
+    let n = receiverInterval (t .profile) in
+    subst (λ (st : Step). HandsOverExactly count segment message cs c st)
+    (sym (one-interval-step n (start (tryNewOf t made .receiver) store) cs c (made-interval t made e)))
+    (demand3-at n .second-half t made e store message count segment given fits room cs c D)
+
+-- the receiver meets demand 3, with its profile's interval in the delivery conditions
+pub demand3 : Demand3 (λ t. receiverInterval (t .profile)) tryNewOf ours
+demand3 = record { first-half = own-first-half; second-half = second }
+
 -- and none of its calls is refused with 62
-pub none-refused-with-62 : (interval : ℕ) → NoneRefusedWith62 tryNewOf (stepOf interval)
-none-refused-with-62 = never-62
+pub none-refused-with-62-at : (interval : ℕ) → NoneRefusedWith62 tryNewOf (stepOf interval)
+none-refused-with-62-at = never-62
+
+pub none-refused-with-62 : NoneRefusedWith62 tryNewOf ours
+none-refused-with-62 t made e store cs h c f =
+    let n = receiverInterval (t .profile) in
+    never-62 n t made e store cs h c
+    (ap (λ (st : Step). st .answer) (sym (one-interval-step n (start (tryNewOf t made .receiver) store) cs c (made-interval t made e))) ∙ f)

@@ -10,6 +10,7 @@ use lib.ListN.{length, replicate}
 use lib.Dec.{lit≤, eqb, leb}
 use Rattle.octets.specs.Octets.{wipedTo, sameOctets}
 use Rattle.words.specs.Marks.{marked, sumBelow, wordsOf, allBelow, highestOf}
+use Rattle.link.specs.Profile.{knownProfile, receiverInterval}
 use Rattle.tsar.specs.Kinds.{isContinue}
 use Rattle.tsar.specs.Layout.{WholeSegment}
 use Rattle.tsar.specs.Writing.{headerOctets}
@@ -27,9 +28,10 @@ use Rattle.receiver.specs.Record.{sumTo, emptySlots, emptyLengths, joined, impo
 use Rattle.receiver.specs.Answers.{Step, refuses}
 use Rattle.receiver.specs.Receive.{kind, receiveOf}
 use Rattle.receiver.specs.Advance.{tryNewOf}
-use Rattle.delivery.specs.Calls.{receive, advance, cancel, release, StepFunction, stepOf, start, after, carried}
+use Rattle.delivery.specs.Calls.{receive, advance, cancel, release, StepFunction, ours, start, after, carried}
 use Rattle.delivery.specs.Delivery.{HandsOver}
 use Rattle.delivery.specs.Demand.{SecondHalf, TrainFor, evenly, frozen, stepAfter, trainOf, frozenTrainOf}
+use Rattle.delivery.specs.Own.{ownInterval}
 use Rattle.delivery.specs.Witness.{terms₀, store₀, room, new-made}
 use Rattle.delivery.specs.InOrder.{in-order, bringing, bringingTo}
 use Rattle.delivery.specs.Refuted.{none-some}
@@ -84,9 +86,6 @@ frozen-train = frozen heads 4 eight 20 20 refl accepted
 
 -- ---- the wrong receivers
 
-abbrev ours : StepFunction
-ours = stepOf 300000
-
 -- ours, but where segment 1 is held it refuses a Continue whose length is unlike that of segment 1
 abbrev choosy : (ℕ → ℕ → Bool) → StepFunction
 choosy unlike r store (receive a out) =
@@ -112,32 +111,33 @@ abbrev endStep : StepFunction → (ℕ → WholeSegment) → Step
 endStep step segment = stepAfter step (after step (start (tryNewOf terms₀ 0 .receiver) store₀) (bringingTo terms₀ 0 segment output 3)) (bringing terms₀ 0 segment output 3)
 
 one-length-none : carried (endStep oneLength (trainOf evenPlan eight) .answer) ≡ none
-unfolding tryNewOf receiveOf impossible allBelow sumTo emptySlots emptyLengths joined sameOctets wipedTo marked wordsOf sumBelow highestOf longer segmentAt bringingTo
+unfolding knownProfile receiverInterval tryNewOf receiveOf impossible allBelow sumTo emptySlots emptyLengths joined sameOctets wipedTo marked wordsOf sumBelow highestOf longer segmentAt bringingTo
 one-length-none = refl
 
 shorter-none : carried (endStep atMostOneShorter (frozenTrainOf (frozenOf proposal) eight) .answer) ≡ none
-unfolding tryNewOf receiveOf impossible allBelow sumTo emptySlots emptyLengths joined sameOctets wipedTo marked wordsOf sumBelow highestOf frozenSegmentAt keptHeads dataBefore bringingTo
+unfolding knownProfile receiverInterval tryNewOf receiveOf impossible allBelow sumTo emptySlots emptyLengths joined sameOctets wipedTo marked wordsOf sumBelow highestOf frozenSegmentAt keptHeads dataBefore bringingTo
 shorter-none = refl
 
 -- ours hands over both
 pub even-handed : HandsOver (endStep ours (trainOf evenPlan eight)) eight
-unfolding tryNewOf receiveOf impossible allBelow sumTo emptySlots emptyLengths joined sameOctets wipedTo marked wordsOf sumBelow highestOf longer segmentAt bringingTo
+unfolding knownProfile receiverInterval tryNewOf receiveOf impossible allBelow sumTo emptySlots emptyLengths joined sameOctets wipedTo marked wordsOf sumBelow highestOf longer segmentAt bringingTo
 even-handed = (refl, refl)
 
 pub frozen-handed : HandsOver (endStep ours (frozenTrainOf (frozenOf proposal) eight)) eight
-unfolding tryNewOf receiveOf impossible allBelow sumTo emptySlots emptyLengths joined sameOctets wipedTo marked wordsOf sumBelow highestOf frozenSegmentAt keptHeads dataBefore bringingTo
+unfolding knownProfile receiverInterval tryNewOf receiveOf impossible allBelow sumTo emptySlots emptyLengths joined sameOctets wipedTo marked wordsOf sumBelow highestOf frozenSegmentAt keptHeads dataBefore bringingTo
 frozen-handed = (refl, refl)
 
 -- ---- refuted
 
 -- a receiver that hands nothing over with the End of such a train
-refuted : (step : StepFunction) (segment : ℕ → WholeSegment) → TrainFor 0 1 eight 4 segment → carried (endStep step segment .answer) ≡ none → SecondHalf 300000 tryNewOf step → ⊥
+refuted : (step : StepFunction) (segment : ℕ → WholeSegment) → TrainFor 0 1 eight 4 segment → carried (endStep step segment .answer) ≡ none → SecondHalf ownInterval tryNewOf step → ⊥
+unfolding receiverInterval
 refuted step segment T e p =
-    let h = in-order 300000 (lit≤ tt) tryNewOf step p terms₀ 0 new-made (lit≤ tt) store₀ eight 4 segment T (lit≤ tt) room output (lit≤ tt) in
+    let h = in-order (ownInterval terms₀) (lit≤ tt) tryNewOf step terms₀ (p terms₀) 0 new-made (lit≤ tt) store₀ eight 4 segment T (lit≤ tt) room output (lit≤ tt) in
     none-some _ 8 e (h .0)
 
-pub one-length-refuted : SecondHalf 300000 tryNewOf oneLength → ⊥
+pub one-length-refuted : SecondHalf ownInterval tryNewOf oneLength → ⊥
 one-length-refuted = refuted oneLength (trainOf evenPlan eight) even-train one-length-none
 
-pub at-most-one-shorter-refuted : SecondHalf 300000 tryNewOf atMostOneShorter → ⊥
+pub at-most-one-shorter-refuted : SecondHalf ownInterval tryNewOf atMostOneShorter → ⊥
 at-most-one-shorter-refuted = refuted atMostOneShorter (frozenTrainOf (frozenOf proposal) eight) frozen-train shorter-none

@@ -1,7 +1,7 @@
 -- The receiver wipes its store on the four occasions and on no other, whatever its record is; no call changes the store of a closed receiver, so the
 -- store of one that was made and is closed is wiped. Every call ends in one of two ways: it goes on, or it is closed on an occasion. Assumes nothing.
 use Prim.Native.Nat.{ℕ, _<_}
-use mathlib.Core.Path.{_≡_, refl, sym, ap, _∙_}
+use mathlib.Core.Path.{_≡_, refl, sym, ap, _∙_, subst}
 use mathlib.Core.Logic.{_⊎_, inl, inr, ⊎-elim}
 use mathlib.Core.List.{List, [], _∷_}
 use mathlib.Core.Bool.{Bool, true, false, cond, not, _&&_, _||_, false≢true}
@@ -19,17 +19,18 @@ use Rattle.receiver.specs.declared.ReceiverState.{ReceiverState}
 use Rattle.receiver.specs.declared.ReceiverState.the-variants.{AwaitingBegin, Receiving, Complete, Failed, Expired, Canceled}
 use Rattle.receiver.specs.declared.Terms.{Terms}
 use Rattle.receiver.specs.declared.Receiver.{Receiver}
-use Rattle.receiver.specs.Record.{taking, awaiting, receiving, complete, late, due, isHeld, closed, storeOctets}
+use Rattle.receiver.specs.Record.{intervalOf, taking, awaiting, receiving, complete, late, due, isHeld, closed, storeOctets}
 use Rattle.receiver.specs.Answers.{Step}
 use Rattle.receiver.specs.Receive.{Arrival, sequence, settle, keeps, slotRules, receiveRows, lateOr, receiveAfter, atStage, Stage, before, begun, noted, keeping, receiveOf}
 use Rattle.receiver.specs.Advance.{tryNewOf, fires, advanceOf}
-use Rattle.delivery.specs.Calls.{Call, receive, advance, cancel, release, Left, stepOf, start, then, after, isRefused, hasFailed, carried}
+use Rattle.delivery.specs.Calls.{Call, receive, advance, cancel, release, Left, stepOf, ours, start, then, after, isRefused, hasFailed, carried}
 use Rattle.delivery.specs.Delivery.{reading}
 use Rattle.delivery.specs.Lists.{never, and-left, and-right}
 use Rattle.delivery.specs.Rules.{Clocked, by-rules, by-receive, by-advance, by-cancel, by-release}
 use Rattle.delivery.specs.Leaves.{Wiped, Fills}
 use Rattle.delivery.specs.Left.{late-due, due-receiving, or-yes, cancel-open, release-open, fires-open, leaves}
 use Rattle.delivery.specs.Invariant.{shut, made-is}
+use Rattle.delivery.specs.Own.{ownInterval, one-interval, made-interval}
 use Rattle.delivery.specs.ProgressReleased.{stays-closed}
 use Rattle.delivery.specs.Occasions.{Occasion, failure, expiry, cancelling, releasing, hasExpired, isCanceled, occasion, isOne, asks, closes, Emptied, WipesOnOccasion}
 
@@ -278,6 +279,10 @@ wipes interval r store c =
     closing : Wiped r store st → closes r st ≡ true
     closing w = rw (w .was-open, w .is-closed)
 
+-- and ours, at its own interval
+pub own-wipes : WipesOnOccasion ours
+own-wipes r = wipes (intervalOf r) r
+
 -- ---- a closed receiver's store
 
 -- no call changes it
@@ -317,3 +322,8 @@ clean-after interval w (c ∷ cs) k = clean-after interval (then (stepOf interva
 pub closed-store : (interval : ℕ) (t : Terms) (made : ℕ) → tryNewOf t made .refused ≡ none → (store : List ℕ) (cs : List Call) → Clean (after (stepOf interval) (start (tryNewOf t made .receiver) store) cs)
 closed-store interval t made e store cs =
     clean-after interval (start (tryNewOf t made .receiver) store) cs (λ f. never _ f (ap (λ (r : Receiver). taking (r .progress .state)) (made-is t made e)))
+
+-- so of ours
+pub own-closed-store : (t : Terms) (made : ℕ) → tryNewOf t made .refused ≡ none → (store : List ℕ) (cs : List Call) → Clean (after ours (start (tryNewOf t made .receiver) store) cs)
+own-closed-store t made e store cs =
+    subst Clean (sym (one-interval (ownInterval t) (start (tryNewOf t made .receiver) store) cs (made-interval t made e))) (closed-store (ownInterval t) t made e store cs)

@@ -1,10 +1,11 @@
-// Two receptions, each a list of lent calls.
+// Receptions, each a list of lent calls.
 use crate::lends;
 use crate::says;
 use link::HigherLayerProtocol;
 use link::MobileIdentity;
 use octets::same;
 use receiver::Receiver;
+use receiver::Terms;
 use tally::say;
 use tally::say_number;
 use tsar::AcknowledgmentWindow;
@@ -18,6 +19,13 @@ use tsar::SegmentKind;
 use tsar::Services;
 
 const VERSION: u8 = 5;
+
+// Bench profiles: how long a receiver waits. A record can have any number there, and one of neither is refused.
+const PROFILE_1: u8 = 1;
+
+const PROFILE_2: u8 = 2;
+
+const NEITHER: u8 = 3;
 
 // What a message may have, and what this one has.
 const MAXIMUM_OCTETS: usize = 700;
@@ -41,17 +49,44 @@ fn protocol() -> HigherLayerProtocol {
     HigherLayerProtocol::Segmented(0)
 }
 
-// A receiver of a transaction, made at reading 0.
-fn made(transaction_id: u8) -> Receiver {
+// A receiver of a transaction in a profile, made at reading 0.
+fn made(transaction_id: u8, profile: u8) -> Receiver {
     let out = Receiver::try_new(
         peer(),
         protocol(),
         transaction_id,
         VERSION,
+        profile,
         MAXIMUM_OCTETS,
         0,
     );
     out.receiver
+}
+
+// The same receiver in another profile, which no call leaves.
+fn in_profile(receiver: Receiver, profile: u8) -> Receiver {
+    let old = receiver.terms;
+    let peer = old.peer;
+    let protocol = old.protocol;
+    let terms = Terms {
+        peer,
+        protocol,
+        transaction_id: old.transaction_id,
+        version: old.version,
+        profile,
+        maximum_message_octets: old.maximum_message_octets,
+    };
+    let progress = receiver.progress;
+    let held = receiver.held;
+    let lengths = receiver.lengths;
+    let slots = receiver.slots;
+    Receiver {
+        terms,
+        progress,
+        held,
+        lengths,
+        slots,
+    }
 }
 
 // The first segment, with a response asked for at the last one.
@@ -195,7 +230,7 @@ pub fn rebuilt() {
     let third = [0x43u8; 90];
     let wiped = [0u8; SLOTS_OCTETS];
     say(b"a message of 600 octets in three segments\n");
-    let mut r = made(1);
+    let mut r = made(1, PROFILE_1);
     r = advance(r, 900, &mut store);
     r = receive(r, begin(1), &first, 1_000, &mut store, &mut output);
     r = receive(r, end(1), &third, 2_000, &mut store, &mut output);
@@ -221,7 +256,7 @@ pub fn broken_off() {
     let second = [0x45u8; 255];
     let wiped = [0u8; SLOTS_OCTETS];
     say(b"a reception that is canceled\n");
-    let mut r = made(2);
+    let mut r = made(2, PROFILE_1);
     r = receive(r, middle(2), &second, 500, &mut store, &mut output);
     r = receive(r, begin(2), &first, 1_000, &mut store, &mut output);
     r = cancel(r, 999, &mut store);
@@ -229,5 +264,33 @@ pub fn broken_off() {
     r = receive(r, middle(2), &second, 3_000, &mut store, &mut output);
     r = advance(r, 4_000, &mut store);
     says::holds(b"  slots of the store all 0", stands(&store, 0, &wiped));
+    past_slots(&store);
+}
+
+// A receiver of profile 2, whose deadline comes 120 s after a segment.
+pub fn shorter() {
+    let mut store = [FILL; 65_290];
+    let mut output = [FILL; 700];
+    let first = [0x46u8; 255];
+    say(b"a reception in profile 2\n");
+    let mut r = made(3, PROFILE_2);
+    r = receive(r, begin(3), &first, 1_000, &mut store, &mut output);
+    r = advance(r, 120_999, &mut store);
+    r = advance(r, 121_000, &mut store);
+    past_slots(&store);
+}
+
+// A record of neither profile, which every call refuses.
+pub fn neither() {
+    let mut store = [FILL; 65_290];
+    let mut output = [FILL; 700];
+    let first = [0x47u8; 255];
+    say(b"a record of neither profile\n");
+    let mut r = made(4, PROFILE_2);
+    r = in_profile(r, NEITHER);
+    r = receive(r, begin(4), &first, 1_000, &mut store, &mut output);
+    r = advance(r, 1_000, &mut store);
+    r = cancel(r, 1_000, &mut store);
+    r = release(r, 1_000, &mut store);
     past_slots(&store);
 }

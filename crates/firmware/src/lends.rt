@@ -9,6 +9,7 @@ use receiver::Receive;
 use receiver::Receiver;
 use tsar::Segment;
 ghost use mathlib.Core.Path.{_≡_};
+ghost use Rattle.receiver.specs.Record.{intervalOf};
 ghost use Rattle.receiver.specs.Receive.{receiveOf};
 ghost use Rattle.receiver.specs.Advance.{advanceOf, cancelOf, releaseOf};
 ghost use Rattle.receiver.specs.Says.{received, advanced, canceled};
@@ -24,7 +25,7 @@ pub fn receive(
     store: &mut [u8],
     output: &mut [u8],
 ) -> Receive
-    ensures { λ r. ⌜ received r (now (store .exit)) (now (output .exit)) ≡ receiveOf 300000 receiver (record { peer = peer; protocol = protocol; segment = segment; octets = now («data» .entry); unparsed = «unparsed_octets»; reading = «monotonic_ms» }) (now (store .entry)) (now (output .entry)) ⌝ }
+    ensures { λ r. ⌜ received r (now (store .exit)) (now (output .exit)) ≡ receiveOf (intervalOf receiver) receiver (record { peer = peer; protocol = protocol; segment = segment; octets = now («data» .entry); unparsed = «unparsed_octets»; reading = «monotonic_ms» }) (now (store .entry)) (now (output .entry)) ⌝ }
 {
     let mut lent = LentReceiver { receiver };
     let answer = lent.receive(

@@ -10,6 +10,8 @@ mod says;
 fn main() {
     calls::rebuilt();
     calls::broken_off();
+    calls::shorter();
+    calls::neither();
     comparisons::table();
     maps::table();
 }

@@ -26,6 +26,7 @@ fn refusal(e: ReceiveError) {
         ReceiveError::Store => say_number(60),
         ReceiveError::Output => say_number(61),
         ReceiveError::ImpossibleState => say_number(62),
+        ReceiveError::Profile => say_number(64),
     }
 }
 

@@ -13,6 +13,7 @@ use receiver::ReceiveAnswer;
 use receiver::Receiver;
 use tsar::Segment;
 ghost use mathlib.Core.Path.{_≡_};
+ghost use Rattle.receiver.specs.Record.{intervalOf};
 ghost use Rattle.receiver.specs.Receive.{receiveOf};
 ghost use Rattle.receiver.specs.Advance.{advanceOf, cancelOf, releaseOf};
 ghost use Rattle.receiver.specs.Says.{received, advanced, canceled};
@@ -34,7 +35,7 @@ impl LentReceiver {
         store: &mut [u8],
         output: &mut [u8],
     ) -> ReceiveAnswer
-        ensures { λ r. ⌜ received (record { answer = r; receiver = now (self .exit) .receiver }) (now (store .exit)) (now (output .exit)) ≡ receiveOf 300000 (now (self .entry) .receiver) (record { peer = peer; protocol = protocol; segment = segment; octets = now («data» .entry); unparsed = «unparsed_octets»; reading = «monotonic_ms» }) (now (store .entry)) (now (output .entry)) ⌝ }
+        ensures { λ r. ⌜ received (record { answer = r; receiver = now (self .exit) .receiver }) (now (store .exit)) (now (output .exit)) ≡ receiveOf (intervalOf (now (self .entry) .receiver)) (now (self .entry) .receiver) (record { peer = peer; protocol = protocol; segment = segment; octets = now («data» .entry); unparsed = «unparsed_octets»; reading = «monotonic_ms» }) (now (store .entry)) (now (output .entry)) ⌝ }
     {
         let receiver = self.receiver;
         let out = receiver.receive(

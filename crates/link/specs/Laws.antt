@@ -1,9 +1,12 @@
--- Laws of peers and protocols: each is the same as itself, and two that are the same are equal. Assumes nothing.
+-- Laws of peers and protocols (each is the same as itself, and two that are the same are equal) and of profiles. Assumes nothing.
 use mathlib.Core.Path.{_≡_, refl, sym, ap}
-use mathlib.Core.Bool.{Bool, true, false, _&&_, true≢false}
+use mathlib.Core.Bool.{Bool, true, false, cond, _&&_, true≢false}
+use Prim.Native.Nat.{ℕ, _+_, _≤_}
+use native.Mathlib.Omega.{arith}
 use lib.Dec.{eqb}
-use borrow.Author.Tests.{eqb-true, eq-eqb}
+use borrow.Author.Tests.{eqb-true, eq-eqb, ne-eqb}
 use Rattle.link.specs.Peer.{sameIdentity, sameProtocol}
+use Rattle.link.specs.Profile.{knownProfile, receiverInterval, senderInterval}
 use Rattle.link.specs.declared.MobileIdentity.{MobileIdentity}
 use Rattle.link.specs.declared.HigherLayerProtocol.{HigherLayerProtocol}
 use Rattle.link.specs.declared.HigherLayerProtocol.the-variants.{Segmented, CarrierSpecific, Other}
@@ -40,3 +43,57 @@ same-protocol (CarrierSpecific o) (Segmented q) h = absurd (true≢false (sym h)
 same-protocol (CarrierSpecific o) (Other q) h = absurd (true≢false (sym h))
 same-protocol (Other o) (Segmented q) h = absurd (true≢false (sym h))
 same-protocol (Other o) (CarrierSpecific q) h = absurd (true≢false (sym h))
+
+-- ---- profiles
+
+below : (b : Bool) (m n : ℕ) → m ≤ 330000 → n ≤ 330000 → cond b m n ≤ 330000
+below true m n h k = h
+below false m n h k = k
+
+-- no machine waits longer than this, of whatever profile
+pub receiver-interval-below : (p : ℕ) → receiverInterval p ≤ 330000
+unfolding receiverInterval
+receiver-interval-below p = below (eqb p 2) 120000 300000 (omega arith) (omega arith)
+
+pub sender-interval-below : (p : ℕ) → senderInterval p ≤ 330000
+unfolding senderInterval
+sender-interval-below p = below (eqb p 2) 150000 330000 (omega arith) (omega arith)
+
+-- profiles 1 and 2 are known, and no other
+pub known-1 : knownProfile 1 ≡ true
+unfolding knownProfile
+known-1 = refl
+
+pub known-2 : knownProfile 2 ≡ true
+unfolding knownProfile
+known-2 = refl
+
+pub neither-known : (p : ℕ) → (p ≡ 1 → ⊥) → (p ≡ 2 → ⊥) → knownProfile p ≡ false
+unfolding knownProfile
+neither-known p f g = rw (ne-eqb p 1 f, ne-eqb p 2 g)
+
+-- what each waits, in milliseconds
+pub receiver-1 : receiverInterval 1 ≡ 300000
+unfolding receiverInterval
+receiver-1 = refl
+
+pub receiver-2 : receiverInterval 2 ≡ 120000
+unfolding receiverInterval
+receiver-2 = refl
+
+pub sender-1 : senderInterval 1 ≡ 330000
+unfolding senderInterval
+sender-1 = refl
+
+pub sender-2 : senderInterval 2 ≡ 150000
+unfolding senderInterval
+sender-2 = refl
+
+-- within a profile the sender waits 30,000 ms longer than the receiver
+pub sender-longer : (p : ℕ) → receiverInterval p + 30000 ≡ senderInterval p
+unfolding receiverInterval senderInterval
+sender-longer p = go (eqb p 2)
+  where
+    go : (b : Bool) → cond b 120000 300000 + 30000 ≡ cond b 150000 330000
+    go true = refl
+    go false = refl

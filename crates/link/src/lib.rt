@@ -2,6 +2,8 @@
 ghost use mathlib.Core.Path.{_≡_};
 ghost use Rattle.link.specs.Peer.{identityRefused, sameIdentity, protocolServed, sameProtocol};
 
+pub mod profiles;
+
 const MAX_WIDTH: u8 = 63;
 
 // Both top bits set: an octet that is at least this.

@@ -11,6 +11,7 @@ use borrow.Author.Tests.{lt-ltb, le-ltb}
 use Rattle.tsar.specs.Rows.{Refusal, refusal, orElse, refusal-pass, refusal-append}
 use Rattle.tsar.specs.declared.SegmentHead.{SegmentHead}
 use Rattle.link.specs.Peer.{identityRefused, protocolServed}
+use Rattle.link.specs.Profile.{knownProfile}
 use Rattle.segmentation.specs.Frozen.{Proposal, frozenRefusal, checkedAs}
 use Rattle.segmentation.specs.declared.FrozenMessage.{FrozenMessage}
 use Rattle.dialect.specs.declared.Dialect.{Dialect}
@@ -124,8 +125,8 @@ module _ (heads : List ℕ) (count : ℕ) (joined message : List ℕ) (budget ve
 -- ---- what a sender makes of it: it is not refused with 40, for it is a plan that the frozen check gives
 
 pub converted-made : (d : Dialect) (q : Proposal) → convertRefusal d q ≡ none
-    → (t : Terms) (k : ℕ) → identityRefused (t .peer) ≡ false → protocolServed (t .protocol) ≡ true → 1 ≤ t .version
+    → (t : Terms) (k : ℕ) → identityRefused (t .peer) ≡ false → protocolServed (t .protocol) ≡ true → knownProfile (t .profile) ≡ true → 1 ≤ t .version
     → tryNewOf t (frozenPlan (convertOf d q .plan)) (q .message) k ≡ placed (firstSender t (frozenPlan (convertOf d q .plan)) k) (left (firstOffer k))
-converted-made d q ok t k i s v =
+converted-made d q ok t k i s c v =
     subst (λ (f : FrozenMessage). tryNewOf t (frozenPlan f) (q .message) k ≡ placed (firstSender t (frozenPlan f) k) (left (firstOffer k)))
-    (again-plan d q ok) (frozen-made (again d q) (again-wide d q ok) (again-accepted d q ok) t k i s v)
+    (again-plan d q ok) (frozen-made (again d q) (again-wide d q ok) (again-accepted d q ok) t k i s c v)

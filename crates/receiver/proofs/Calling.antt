@@ -3,12 +3,13 @@ use mathlib.Core.Path.{_≡_, sym, ap, ap₂, _∙_}
 use mathlib.Core.Bool.{Bool, _||_}
 use mathlib.Core.List.{List, []}
 use mathlib.Core.Option.{Option, none, some}
-use Prim.Native.Nat.{ℕ, _≤_}
+use Prim.Native.Nat.{ℕ, _-_, _≤_}
 use native.Mathlib.Omega.{arith}
 use borrow.Author.Tests.{ltb-false}
 use lib.ListN.{length}
 use Rattle.tsar.specs.Rows.{Refusal, refusal, anyOf, refusal-none}
 use Rattle.tsar.specs.Kinds.{prohibited}
+use Rattle.link.specs.Laws.{receiver-interval-below}
 use Rattle.receiver.specs.declared.ReceiverState.the-variants as state
 use Rattle.receiver.specs.declared.Terms.{Terms}
 use Rattle.receiver.specs.declared.Receiver.{Receiver}
@@ -16,7 +17,7 @@ use Rattle.receiver.specs.declared.checks.Brought.{Brought}
 use Rattle.receiver.specs.declared.machine.Fired.{Fired}
 use Rattle.receiver.specs.declared.turns.Slots.{Slots}
 use Rattle.receiver.specs.declared.turns.Turn.{Turn}
-use Rattle.receiver.specs.Record.{awaiting, receiving, complete, kindAt, late, due, impossible, wiped, closed}
+use Rattle.receiver.specs.Record.{intervalOf, awaiting, receiving, complete, kindAt, late, due, impossible, wiped, closed}
 use Rattle.receiver.specs.Answers.{Step, refuses, answered}
 use Rattle.receiver.specs.Receive.{Arrival, receiveRows, receiveAfter, receiveOf}
 use Rattle.receiver.specs.Advance.{Made, tryNewRows, madeAfter, tryNewOf, noReceiver, empty, fires, advanceAfter, advanceOf, cancelAfter, cancelOf, releaseOf}
@@ -39,7 +40,7 @@ try-made t reading x h e =
 
 -- ---- 62
 
-pub impossible-is : (r : Receiver) (b : Bool) → b ≡ anyOf (faultsOf (r .terms .«maximum_message_octets») (r .progress) (r .held) (r .lengths) (kindAt r 0)) → b ≡ impossible r
+pub impossible-is : (r : Receiver) (b : Bool) → b ≡ anyOf (faultsOf (r .terms) (r .progress) (r .held) (r .lengths) (kindAt r 0)) → b ≡ impossible r
 unfolding impossible
 impossible-is r b e = e
 
@@ -102,24 +103,24 @@ broughtOf a =
 
 module _ (r : Receiver) (a : Arrival) (store out : List ℕ) (bad : Bool) (b : bad ≡ impossible r) where
   abbrev arriving : Option Refusal → Type 0
-  arriving o = o ≡ refusal (arrivalRows 300000 (length store) (length out) bad (r .terms) (r .progress) (broughtOf a))
+  arriving o = o ≡ refusal (arrivalRows (intervalOf r) (length store) (length out) bad (r .terms) (r .progress) (broughtOf a))
 
-  rows-are : (o : Option Refusal) → arriving o → o ≡ refusal (receiveRows 300000 r a store out)
-  rows-are o e = e ∙ ap (λ (x : Bool). refusal (arrivalRows 300000 (length store) (length out) x (r .terms) (r .progress) (broughtOf a))) b
+  rows-are : (o : Option Refusal) → arriving o → o ≡ refusal (receiveRows (intervalOf r) r a store out)
+  rows-are o e = e ∙ ap (λ (x : Bool). refusal (arrivalRows (intervalOf r) (length store) (length out) x (r .terms) (r .progress) (broughtOf a))) b
 
-  pub receive-refused : (n : Refusal) → arriving (some n) → refuses n r store out ≡ receiveOf 300000 r a store out
+  pub receive-refused : (n : Refusal) → arriving (some n) → refuses n r store out ≡ receiveOf (intervalOf r) r a store out
   unfolding receiveOf
-  receive-refused n e = ap (λ (o : Option Refusal). receiveAfter 300000 o r a store out) (rows-are (some n) e)
+  receive-refused n e = ap (λ (o : Option Refusal). receiveAfter (intervalOf r) o r a store out) (rows-are (some n) e)
 
-  receive-taken : arriving none → takenOf r (arrived (a .segment) (a .octets) (a .reading)) store out ≡ receiveOf 300000 r a store out
+  receive-taken : arriving none → takenOf r (arrived (a .segment) (a .octets) (a .reading)) store out ≡ receiveOf (intervalOf r) r a store out
   unfolding receiveOf takenOf
   receive-taken e =
-      late-arrived 300000 (late (r .progress .«deadline_monotonic_ms») (a .reading)) (prohibited (r .progress .services .«acknowledgment_window»)) r a store out ∙ ap (λ (o : Option Refusal). receiveAfter 300000 o r a store out) (rows-are none e)
+      late-arrived (intervalOf r) (late (r .progress .«deadline_monotonic_ms») (a .reading)) (prohibited (r .progress .services .«acknowledgment_window»)) r a store out ∙ ap (λ (o : Option Refusal). receiveAfter (intervalOf r) o r a store out) (rows-are none e)
 
   -- a segment that passes leaves what its turn says
   pub receive-turned : (x : Turn) (s : Slots) (store′ out′ : List ℕ) → arriving none → x .slots ≡ s
       → received (turned r (a .segment) (length (a .octets)) x) store′ out′ ≡ takenOf r (arrived (a .segment) (a .octets) (a .reading)) store out
-      → received (turned r (a .segment) (length (a .octets)) (record { answer = x .answer; progress = x .progress; held = x .held; slots = s })) store′ out′ ≡ receiveOf 300000 r a store out
+      → received (turned r (a .segment) (length (a .octets)) (record { answer = x .answer; progress = x .progress; held = x .held; slots = s })) store′ out′ ≡ receiveOf (intervalOf r) r a store out
   receive-turned x s store′ out′ e es h =
       ap (λ (t : Slots). received (turned r (a .segment) (length (a .octets)) (record { answer = x .answer; progress = x .progress; held = x .held; slots = t })) store′ out′) (sym es) ∙ h
       ∙ receive-taken e
@@ -127,7 +128,7 @@ module _ (r : Receiver) (a : Arrival) (store out : List ℕ) (bad : Bool) (b : b
   -- a segment that passes is short and early enough
   pub fits : arriving none → Fits r (length (a .octets)) (a .reading)
   fits e =
-      let p = refusal-none (receiveRows 300000 r a store out) (sym (rows-are none e)) in
+      let p = refusal-none (receiveRows (intervalOf r) r a store out) (sym (rows-are none e)) in
       let short : length (a .octets) ≤ 255 = ltb-false _ _ (p 9) in
-      let early : a .reading ≤ 18446744073709251615 = ltb-false _ _ (p 16) in
-      record { few = omega (arith, count-small r (p 2)); early = omega arith }
+      let early : a .reading ≤ 18446744073709551615 - intervalOf r = ltb-false _ _ (p 16) in
+      record { few = omega (arith, count-small r (p 2)); early = omega (arith, receiver-interval-below (r .terms .profile)) }

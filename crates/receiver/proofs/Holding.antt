@@ -25,7 +25,7 @@ use Rattle.receiver.specs.declared.ReceiveAnswer.the-variants as receive
 use Rattle.receiver.specs.declared.Receive.{Receive}
 use Rattle.receiver.specs.declared.replies.Standing.{Standing}
 use Rattle.receiver.specs.declared.turns.Slots.the-variants as after
-use Rattle.receiver.specs.Record.{receiving, complete, joined, with, timed}
+use Rattle.receiver.specs.Record.{intervalOf, receiving, complete, joined, with, timed}
 use Rattle.receiver.specs.Answers.{answered, lastEntry}
 use Rattle.receiver.specs.Receive.{repeats, keeps, finishes, settle}
 use Rattle.receiver.specs.Says.{received, replySays}
@@ -60,15 +60,15 @@ module _ (r : Receiver) (g : Segment) (octets : List ℕ) (reading : ℕ) (store
 
   -- with the message incomplete
   pub kept-as : (p : Progress) (h : Words) (y : Standing) (reply : Reply) (store′ : List ℕ)
-      → p ≡ progress′ state.Receiving (deadline.At (reading + 300000))
+      → p ≡ progress′ state.Receiving (deadline.At (reading + intervalOf r))
       → h ≡ held′
       → y ≡ standingOf p h
       → replySays reply ≡ requiredReply (r .terms .«transaction_id») y g status.Continuing
       → store′ ≡ store″
-      → received (held-turn p h reply message.Nothing) store′ [] ≡ settle 300000 keeps r (arrived g octets reading) store []
+      → received (held-turn p h reply message.Nothing) store′ [] ≡ settle (intervalOf r) keeps r (arrived g octets reading) store []
   kept-as p h y reply store′ e eh ey q et =
       λ i. record {
-        answer = answered (reply-is state.Receiving (deadline.At (reading + 300000)) p h y reply status.Continuing e eh ey q i) none;
+        answer = answered (reply-is state.Receiving (deadline.At (reading + intervalOf r)) p h y reply status.Continuing e eh ey q i) none;
         receiver = changed after.Holding r g (length octets) (e i) (eh i);
         store = et i;
         output = [];
@@ -85,7 +85,7 @@ module _ (r : Receiver) (g : Segment) (octets : List ℕ) (reading : ℕ) (store
       → last ≡ lastEntry false h (p .«end_sequence»)
       → count ≡ length (joined lens store′ (suc last))
       → out′ ≡ sets out 0 (joined lens store′ (suc last))
-      → received (held-turn p h reply (message.Octets count)) store′ out′ ≡ settle 300000 finishes r (arrived g octets reading) store out
+      → received (held-turn p h reply (message.Octets count)) store′ out′ ≡ settle (intervalOf r) finishes r (arrived g octets reading) store out
   finished-as p h y reply store′ out out′ lens last count e eh ey q et en el ec eo =
       let whole : joined lens store′ (suc last) ≡ joined lengths′ store″ (suc (lastEntry false held′ (progress′ state.Complete deadline.Off .«end_sequence»))) =
       (λ i. joined (en i) (et i) (suc (el i))) ∙ (λ i. joined lengths′ store″ (suc (lastEntry false (eh i) (e i .«end_sequence»))))
@@ -102,10 +102,10 @@ module _ (r : Receiver) (g : Segment) (octets : List ℕ) (reading : ℕ) (store
 pub repeated-as : (r : Receiver) (g : Segment) (reading : ℕ) (y : Standing) (s : Status) (d : Deadline) (p : Progress) (reply : Reply)
     → y ≡ standingOf (r .progress) (r .held)
     → s ≡ cond (complete (r .progress .state)) status.Received status.Continuing
-    → d ≡ cond (receiving (r .progress .state)) (deadline.At (reading + 300000)) (r .progress .«deadline_monotonic_ms»)
+    → d ≡ cond (receiving (r .progress .state)) (deadline.At (reading + intervalOf r)) (r .progress .«deadline_monotonic_ms»)
     → p ≡ timed (r .progress) d reading
     → replySays reply ≡ requiredReply (r .terms .«transaction_id») y g s
-    → Leaves r (record { answer = receives.Received (record { response = reply; message = message.Nothing }); progress = p; held = r .held; slots = after.Unchanged }) [] [] (settle 300000 repeats r (arrived g [] reading) [] [])
+    → Leaves r (record { answer = receives.Received (record { response = reply; message = message.Nothing }); progress = p; held = r .held; slots = after.Unchanged }) [] [] (settle (intervalOf r) repeats r (arrived g [] reading) [] [])
 repeated-as r g reading y s d p reply ey es ed ep q =
     λ _ _ i. record {
       answer = answered ((q ∙ (λ j. requiredReply (r .terms .«transaction_id») (ey j) g (es j))) i) none;

@@ -22,7 +22,7 @@ use Rattle.receiver.specs.declared.rules.Stage.the-variants as stage
 use Rattle.receiver.specs.declared.rules.Decision.{Decision}
 use Rattle.receiver.specs.declared.rules.Place.{Place}
 use Rattle.receiver.specs.declared.rules.Amounts.{Amounts}
-use Rattle.receiver.specs.Record.{complete, isHeld, kindAt, lengthAt, part, clearPast, fullWith, late}
+use Rattle.receiver.specs.Record.{intervalOf, complete, isHeld, kindAt, lengthAt, part, clearPast, fullWith, late}
 use Rattle.receiver.specs.Answers.{Step}
 use Rattle.receiver.specs.Receive.{Arrival, Outcome, fails, repeats, closes, keeps, finishes, before, begun, noted, keeping, sequence, kind, endOf, sameKind, slotRules, settle, lateOr}
 use Rattle.receiver.specs.Says.{received}
@@ -100,7 +100,7 @@ with-both store out s = record { answer = s .answer; receiver = s .receiver; sto
 
 -- a failure, at each stage
 fails-as : (st : Stage) (s : Status) (r : Receiver) (g : Segment) (octets : List ℕ) (reading : ℕ) (store out : List ℕ)
-    → with-output out (failed (r .terms) (stagedAt st (r .progress) (r .held) g) s reading store) ≡ settle 300000 (fails (stageSays st) s) r (arrived g octets reading) store out
+    → with-output out (failed (r .terms) (stagedAt st (r .progress) (r .held) g) s reading store) ≡ settle (intervalOf r) (fails (stageSays st) s) r (arrived g octets reading) store out
 fails-as stage.Before s r g octets reading store out = refl
 fails-as stage.Begun s r g octets reading store out = refl
 fails-as stage.Noted s r g octets reading store out = refl
@@ -114,9 +114,9 @@ module _ (r : Receiver) (g : Segment) (octets : List ℕ) (reading : ℕ) (store
   outcome o = o ≡ firstOf (slotRules r (arrived g octets reading) store) keeps
 
   -- what settles an outcome settles the rules
-  settled : (o : Outcome) → outcome o → settle 300000 o r (arrived g octets reading) store out ≡ settledOf r (arrived g octets reading) store out
+  settled : (o : Outcome) → outcome o → settle (intervalOf r) o r (arrived g octets reading) store out ≡ settledOf r (arrived g octets reading) store out
   unfolding settledOf
-  settled o e = ap (λ (p : Outcome). settle 300000 p r (arrived g octets reading) store out) e
+  settled o e = ap (λ (p : Outcome). settle (intervalOf r) p r (arrived g octets reading) store out) e
 
   pub settled-fails : (st : Stage) (s : Status) (y : Standing) (store′ : List ℕ) → outcome (fails (stageSays st) s) → y ≡ stagedAt st (r .progress) (r .held) g
       → received x store′ [] ≡ failed (r .terms) y s reading store → goal store′ out
@@ -124,21 +124,21 @@ module _ (r : Receiver) (g : Segment) (octets : List ℕ) (reading : ℕ) (store
       ap (with-output out) h ∙ ap (λ (z : Standing). with-output out (failed (r .terms) z s reading store)) e ∙ fails-as st s r g octets reading store out
       ∙ settled (fails (stageSays st) s) o
 
-  pub settled-repeats : outcome repeats → received x [] [] ≡ settle 300000 repeats r (arrived g [] reading) [] [] → goal store out
+  pub settled-repeats : outcome repeats → received x [] [] ≡ settle (intervalOf r) repeats r (arrived g [] reading) [] [] → goal store out
   settled-repeats o h = ap (with-both store out) h ∙ settled repeats o
 
   pub settled-closes : outcome closes → received x [] [] ≡ closesOf r reading → goal store out
   settled-closes o h = ap (with-both store out) h ∙ settled closes o
 
-  pub settled-keeps : (store′ : List ℕ) → outcome keeps → received x store′ [] ≡ settle 300000 keeps r (arrived g octets reading) store [] → goal store′ out
+  pub settled-keeps : (store′ : List ℕ) → outcome keeps → received x store′ [] ≡ settle (intervalOf r) keeps r (arrived g octets reading) store [] → goal store′ out
   settled-keeps store′ o h = ap (with-output out) h ∙ settled keeps o
 
-  pub settled-finishes : (store′ out′ : List ℕ) → outcome finishes → received x store′ out′ ≡ settle 300000 finishes r (arrived g octets reading) store out → goal store′ out′
+  pub settled-finishes : (store′ out′ : List ℕ) → outcome finishes → received x store′ out′ ≡ settle (intervalOf r) finishes r (arrived g octets reading) store out → goal store′ out′
   settled-finishes store′ out′ o h = h ∙ settled finishes o
 
 -- ---- late or not
 
-late-as : (p : Bool) (r : Receiver) (g : Segment) (octets : List ℕ) (reading : ℕ) (store out : List ℕ) → with-output out (tooLate p r reading store) ≡ lateOr 300000 true p r (arrived g octets reading) store out
+late-as : (p : Bool) (r : Receiver) (g : Segment) (octets : List ℕ) (reading : ℕ) (store out : List ℕ) → with-output out (tooLate p r reading store) ≡ lateOr (intervalOf r) true p r (arrived g octets reading) store out
 late-as true r g octets reading store out = refl
 late-as false r g octets reading store out = refl
 
@@ -148,9 +148,9 @@ module _ (r : Receiver) (g : Segment) (octets : List ℕ) (reading : ℕ) (store
   unfolding takenOf
   taken-late x store′ e h =
       let p = prohibited (r .progress .services .«acknowledgment_window») in
-      ap (with-output out) h ∙ late-as p r g octets reading store out ∙ ap (λ (t : Bool). lateOr 300000 t p r (arrived g octets reading) store out) (sym e)
+      ap (with-output out) h ∙ late-as p r g octets reading store out ∙ ap (λ (t : Bool). lateOr (intervalOf r) t p r (arrived g octets reading) store out) (sym e)
 
   pub taken-settled : late (r .progress .«deadline_monotonic_ms») reading ≡ false → settledOf r (arrived g octets reading) store out ≡ takenOf r (arrived g octets reading) store out
   unfolding settledOf takenOf
   taken-settled e =
-      ap (λ (t : Bool). lateOr 300000 t (prohibited (r .progress .services .«acknowledgment_window»)) r (arrived g octets reading) store out) (sym e)
+      ap (λ (t : Bool). lateOr (intervalOf r) t (prohibited (r .progress .services .«acknowledgment_window»)) r (arrived g octets reading) store out) (sym e)

@@ -7,6 +7,7 @@ use lib.ListN.{length}
 use lib.Dec.{ltb}
 use Rattle.words.specs.Marks.{noMarks}
 use Rattle.link.specs.Peer.{identityRefused, protocolServed}
+use Rattle.link.specs.Profile.{knownProfile}
 use Rattle.link.specs.declared.HigherLayerProtocol.the-variants.{Segmented}
 use Rattle.tsar.specs.Rows.{Refusal, refusal}
 use Rattle.tsar.specs.Kinds.{servicesOrDefault, prohibited}
@@ -55,15 +56,18 @@ empty t s now′ =
 abbrev pub bareBegin : ℕ → Segment
 bareBegin transaction = record { «transaction_id» = transaction; «sequence_number» = 0; kind = Begin Unstated optional.Absent }
 
--- 30, 31, codec
+-- 30, 31, 64 (document 02, 2026-11), codec
 abbrev pub tryNewRows : Terms → List (Bool × Refusal)
 tryNewRows t =
-    (identityRefused (t .peer), (30, 0)) ∷ (not (protocolServed (t .protocol)), (31, 0)) ∷ codecRows (t .version) (bareBegin (t .«transaction_id»)) 0
+    (identityRefused (t .peer), (30, 0))
+    ∷ (not (protocolServed (t .protocol)), (31, 0))
+    ∷ (not (knownProfile (t .profile)), (64, 0))
+    ∷ codecRows (t .version) (bareBegin (t .«transaction_id»)) 0
 
--- beside a refusal: a canceled receiver of no peer, with nothing held
+-- beside a refusal: a canceled receiver of no peer, with nothing held, of profile 1
 abbrev pub noReceiver : Receiver
 noReceiver =
-    empty (record { peer = record { kind = 0; width = 0; value = 0 }; protocol = Segmented 0; «transaction_id» = 0; version = 0; «maximum_message_octets» = 0 }) Canceled 0
+    empty (record { peer = record { kind = 0; width = 0; value = 0 }; protocol = Segmented 0; «transaction_id» = 0; version = 0; profile = 1; «maximum_message_octets» = 0 }) Canceled 0
 
 pub record Made : Type 0 where
   pub refused : Option Refusal

@@ -1,4 +1,4 @@
--- Document 01's numbers, 'Refusals by what is returned': 30 to 38, 60 to 62, and the codec's own.
+-- Document 01's numbers, 'Refusals by what is returned': 30 to 38, 60 to 62, and the codec's own; 64 is change request 2026-11's.
 use Prim.Native.Nat.{ℕ}
 use Rattle.tsar.specs.Rows.{Refusal}
 use Rattle.tsar.specs.Numbers.{number}
@@ -19,3 +19,4 @@ receiveNumber error.Closed = (38, 0)
 receiveNumber error.Store = (60, 0)
 receiveNumber error.Output = (61, 0)
 receiveNumber error.ImpossibleState = (62, 0)
+receiveNumber error.Profile = (64, 0)

@@ -8,6 +8,7 @@ use lib.Dec.{eqb, leb, ltb}
 use Rattle.octets.specs.Octets.{wipedTo}
 use Rattle.words.specs.Marks.{marked, noMarks, allBelow}
 use Rattle.words.specs.declared.Words.{Words}
+use Rattle.link.specs.Profile.{knownProfile, receiverInterval}
 use Rattle.tsar.specs.Rows.{anyOf}
 pub use Rattle.tsar.specs.Kinds.{isBegin, isContinue, isEnd, servicesOrDefault, compresses, selectsCrc, hasCrc, prohibited, statesOther}
 use Rattle.tsar.specs.declared.MessageLength.{MessageLength}
@@ -98,6 +99,10 @@ abbrev pub running : Deadline → Bool
 running deadline.Off = false
 running (deadline.At d) = true
 
+-- the receiver's own interval, in milliseconds: its profile's
+abbrev pub intervalOf : Receiver → ℕ
+intervalOf r = receiverInterval (r .terms .profile)
+
 -- ---- slots and the store: 255 octets a slot, in sequence
 
 abbrev pub slotOctets : ℕ
@@ -178,6 +183,8 @@ faults r =
     ∷ (not (receiving (r .progress .state)) && running (r .progress .«deadline_monotonic_ms»))
     -- Complete with no end or a gap before it
     ∷ (complete (r .progress .state) && gap (r .held) (r .progress .«end_sequence»))
+    -- neither profile (document 02, 2026-11)
+    ∷ not (knownProfile (r .terms .profile))
     ∷ []
 
 unfoldable pub impossible : Receiver → Bool

@@ -13,6 +13,7 @@ use Rattle.words.specs.Marks.{bit, marked, noMarks, wordsOf, allBelow}
 use Rattle.words.specs.declared.Words.{Words}
 use Rattle.link.specs.Peer.{sameIdentity, sameProtocol}
 use Rattle.link.specs.declared.HigherLayerProtocol.the-variants.{Segmented}
+use Rattle.link.specs.Profile.{knownProfile}
 use Rattle.tsar.specs.Rows.{Refusal, firstOf, refusal}
 use Rattle.tsar.specs.Kinds.{isBegin, isContinue, isEnd, compresses, selectsCrc, hasCrc, prohibited, statesOther}
 use Rattle.tsar.specs.Writing.{codecRows, lengthIn, crcIn}
@@ -51,7 +52,7 @@ use Rattle.receiver.specs.declared.turns.Slots.{Slots}
 use Rattle.receiver.specs.declared.turns.Slots.the-variants as after
 use Rattle.receiver.specs.declared.turns.Turn.{Turn}
 use Rattle.receiver.specs.Numbers.{receiveNumber}
-use Rattle.receiver.specs.Record.{taking, awaiting, receiving, complete, receivingOrComplete, statesBelow, statesAbove, clash, pastEnd, otherEnd, running, storeOctets, heldLength, sumTo, isHeld, kindAt, lengthAt, part, emptySlots, emptyLengths, gap, late, wiped, with, read}
+use Rattle.receiver.specs.Record.{intervalOf, taking, awaiting, receiving, complete, receivingOrComplete, statesBelow, statesAbove, clash, pastEnd, otherEnd, running, storeOctets, heldLength, sumTo, isHeld, kindAt, lengthAt, part, emptySlots, emptyLengths, gap, late, wiped, with, read}
 use Rattle.receiver.specs.Answers.{Step, refused, answered, refuses, lastEntry, acknowledges, periodic, reported, listedIn}
 use Rattle.receiver.specs.Says.{received}
 use Rattle.receiver.specs.Advance.{clockRows, cancelAfter}
@@ -140,8 +141,9 @@ stateFaults p held first =
     ∷ (complete (p .state) && gap held (p .«end_sequence»))
     ∷ []
 
-abbrev pub faultsOf : ℕ → Progress → Words → List ℕ → SegmentKind → List Bool
-faultsOf maximum p held lengths first = lengthFaults held lengths (p .«stored_octets») maximum ++ stateFaults p held first
+abbrev pub faultsOf : Terms → Progress → Words → List ℕ → SegmentKind → List Bool
+faultsOf t p held lengths first =
+    lengthFaults held lengths (p .«stored_octets») (t .«maximum_message_octets») ++ (stateFaults p held first ++ (not (knownProfile (t .profile)) ∷ []))
 
 -- ---- refusals
 
@@ -283,6 +285,7 @@ noTerms =
       protocol = Segmented 0;
       «transaction_id» = 0;
       version = 0;
+      profile = 1;
       «maximum_message_octets» = 0;
     }
 
@@ -344,14 +347,14 @@ Found r g k n = Recorded r (g .«sequence_number») k n
 -- the octets stored fit sixteen bits, and a deadline can be set
 pub record Fits (r : Receiver) (n reading : ℕ) : Type 0 where
   pub few : r .progress .«stored_octets» + n < 65536
-  pub early : reading + 300000 < 18446744073709551616
+  pub early : reading + intervalOf r < 18446744073709551616
 
 unfoldable pub settledOf : Receiver → Arrival → List ℕ → List ℕ → Step
-settledOf r a store out = settle 300000 (firstOf (slotRules r a store) keeps) r a store out
+settledOf r a store out = settle (intervalOf r) (firstOf (slotRules r a store) keeps) r a store out
 
 unfoldable pub takenOf : Receiver → Arrival → List ℕ → List ℕ → Step
 takenOf r a store out =
-    lateOr 300000 (late (r .progress .«deadline_monotonic_ms») (a .reading)) (prohibited (r .progress .services .«acknowledgment_window»)) r a store out
+    lateOr (intervalOf r) (late (r .progress .«deadline_monotonic_ms») (a .reading)) (prohibited (r .progress .services .«acknowledgment_window»)) r a store out
 
 -- cancel and release, by whether the state allows them
 unfoldable pub closingOf : Bool → Receiver → List ℕ → ℕ → Step

@@ -1,5 +1,5 @@
 // The refusals of the calls, in document 01's order.
-use crate::LATEST_READING;
+use crate::MAX_READING_MS;
 use crate::Progress;
 use crate::ReceiveError;
 use crate::ReceiverState;
@@ -12,10 +12,12 @@ use crate::states::smaller;
 use crate::states::taking;
 use link::HigherLayerProtocol;
 use link::MobileIdentity;
+use link::profiles::receiver_interval;
 use tsar::Segment;
 use tsar::Validated;
 ghost use mathlib.Core.Path.{_≡_};
 ghost use Rattle.tsar.specs.Rows.{refusal};
+ghost use Rattle.link.specs.Profile.{receiverInterval};
 ghost use Rattle.receiver.specs.Steps.{checkSays, clockRowsOf, closingRowsOf, addressRows, segmentRows, arrivalRows};
 
 // What the tests before a call's work say.
@@ -105,8 +107,8 @@ fn address_check(
 }
 
 // Codec, 35, 38, 36, 34.
-fn segment_check(version: u8, state: ReceiverState, brought: Brought) -> Check
-    ensures { λ r. ⌜ checkSays r ≡ refusal (segmentRows 300000 version state brought) ⌝ }
+fn segment_check(interval: u64, version: u8, state: ReceiverState, brought: Brought) -> Check
+    ensures { λ r. ⌜ checkSays r ≡ refusal (segmentRows interval version state brought) ⌝ }
 {
     let segment = brought.segment;
     match segment.validate(brought.octets, version) {
@@ -122,7 +124,7 @@ fn segment_check(version: u8, state: ReceiverState, brought: Brought) -> Check
             if both(awaiting(state), !is_begin(kind)) {
                 return Check::Refused(ReceiveError::BeginRequired);
             }
-            if LATEST_READING < brought.reading {
+            if MAX_READING_MS - interval < brought.reading {
                 return Check::Refused(ReceiveError::TimeOverflow);
             }
             Check::Passed
@@ -139,14 +141,15 @@ pub fn arrival_check(
     progress: Progress,
     brought: Brought,
 ) -> Check
-    ensures { λ r. ⌜ checkSays r ≡ refusal (arrivalRows 300000 store output bad terms progress brought) ⌝ }
+    ensures { λ r. ⌜ checkSays r ≡ refusal (arrivalRows (receiverInterval (terms .profile)) store output bad terms progress brought) ⌝ }
 {
     let last = progress.last_monotonic_ms;
     match address_check(store, output, bad, last, terms, brought) {
         Check::Refused(e) => Check::Refused(e),
         Check::Passed => {
             let state = progress.state;
-            segment_check(terms.version, state, brought)
+            let interval = receiver_interval(terms.profile);
+            segment_check(interval, terms.version, state, brought)
         }
     }
 }

@@ -2,6 +2,7 @@
 use crate::EndSequence;
 use crate::Progress;
 use crate::SLOT_OCTETS;
+use crate::Terms;
 use crate::kinds::is_begin;
 use crate::states::both;
 use crate::states::complete;
@@ -9,6 +10,7 @@ use crate::states::either;
 use crate::states::receiving;
 use crate::states::running;
 use crate::states::wide;
+use link::profiles::known_profile;
 use tsar::SegmentKind;
 use words::Words;
 ghost use mathlib.Core.Path.{_≡_};
@@ -178,17 +180,22 @@ fn state_impossible(progress: Progress, held: Words, first: SegmentKind) -> bool
     both(complete(state), gap(held, end))
 }
 
+// 62: document 01's list, of the lengths and of the state, and a profile that is neither.
 pub fn impossible(
-    maximum: usize,
+    terms: Terms,
     progress: Progress,
     held: Words,
     lengths: &[u16; 256],
     first: SegmentKind,
 ) -> bool
-    ensures { λ r. ⌜ r ≡ anyOf (faultsOf maximum progress held (now (lengths .entry)) first) ⌝ }
+    ensures { λ r. ⌜ r ≡ anyOf (faultsOf terms progress held (now (lengths .entry)) first) ⌝ }
 {
+    let maximum = terms.maximum_message_octets;
     if lengths_impossible(held, lengths, progress.stored_octets, maximum) {
         return true;
     }
-    state_impossible(progress, held, first)
+    if state_impossible(progress, held, first) {
+        return true;
+    }
+    !known_profile(terms.profile)
 }

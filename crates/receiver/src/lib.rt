@@ -21,10 +21,8 @@ pub mod same;
 pub mod states;
 pub mod turns;
 
-const REASSEMBLY_MS: u64 = 300_000;
-
-// The last reading from which a deadline can be set: 2 to the 64 less 1 less REASSEMBLY_MS.
-const LATEST_READING: u64 = 18_446_744_073_709_251_615;
+// The highest reading of the clock: 2 to the 64 less 1.
+const MAX_READING_MS: u64 = 18_446_744_073_709_551_615;
 
 const LAST_SEQUENCE: u8 = 255;
 
@@ -54,12 +52,13 @@ pub enum Deadline {
     At(u64),
 }
 
-// What try_new fixes.
+// What try_new fixes. The profile says how long the receiver waits; a record can have any number there, and one of neither profile is impossible.
 pub struct Terms {
     pub peer: MobileIdentity,
     pub protocol: HigherLayerProtocol,
     pub transaction_id: u8,
     pub version: u8,
+    pub profile: u8,
     pub maximum_message_octets: usize,
 }
 
@@ -87,7 +86,7 @@ pub struct Receiver {
     pub slots: [Slot; 256],
 }
 
-// The last three are document 01's 60, 61 and 62, which the source has not.
+// The last four are document 01's 60, 61 and 62 and 2026-11's 64, which the source has not.
 pub enum ReceiveError {
     Identity,
     Service,
@@ -102,6 +101,7 @@ pub enum ReceiveError {
     Store,
     Output,
     ImpossibleState,
+    Profile,
 }
 
 // A response with the figures of its map's missing entries, which stand beside it and not in it.

@@ -40,6 +40,7 @@ use crate::turns::take;
 use crate::turns::timed;
 use link::HigherLayerProtocol;
 use link::MobileIdentity;
+use link::profiles::known_profile;
 use response::Status;
 use tsar::MessageLength;
 use tsar::Segment;
@@ -51,7 +52,7 @@ ghost use mathlib.Core.Path.{_≡_};
 ghost use mathlib.Core.List.{[]};
 ghost use Rattle.tsar.specs.Rows.{refusal};
 ghost use Rattle.tsar.specs.Kinds.{prohibited as prohibitedOf};
-ghost use Rattle.receiver.specs.Record.{emptySlots, emptyLengths, wiped, due as dueOf};
+ghost use Rattle.receiver.specs.Record.{intervalOf, emptySlots, emptyLengths, wiped, due as dueOf};
 ghost use Rattle.receiver.specs.Receive.{receiveOf};
 ghost use Rattle.receiver.specs.Advance.{empty as emptyOf, tryNewRows, fires, tryNewOf, advanceOf, cancelOf, releaseOf};
 ghost use Rattle.receiver.specs.Says.{made, received, advanced, canceled};
@@ -121,7 +122,7 @@ fn empty(terms: Terms, state: ReceiverState, reading: u64) -> Receiver
     emptied(terms, progress)
 }
 
-// 30, 31, codec.
+// 30, 31, 64, codec.
 fn terms_check(terms: Terms) -> Check
     ensures { λ r. ⌜ checkSays r ≡ refusal (tryNewRows terms) ⌝ }
 {
@@ -132,6 +133,9 @@ fn terms_check(terms: Terms) -> Check
     let protocol = terms.protocol;
     if !protocol.served() {
         return Check::Refused(ReceiveError::Service);
+    }
+    if !known_profile(terms.profile) {
+        return Check::Refused(ReceiveError::Profile);
     }
     let begin = Segment {
         transaction_id: terms.transaction_id,
@@ -161,6 +165,7 @@ fn no_terms() -> Terms
         protocol: HigherLayerProtocol::Segmented(0),
         transaction_id: 0,
         version: 0,
+        profile: 1,
         maximum_message_octets: 0,
     }
 }
@@ -171,16 +176,18 @@ impl Receiver {
         protocol: HigherLayerProtocol,
         transaction_id: u8,
         version: u8,
+        profile: u8,
         maximum_message_octets: usize,
         monotonic_ms: u64,
     ) -> TryNew
-        ensures { λ r. ⌜ made r ≡ tryNewOf (record { peer = peer; protocol = protocol; «transaction_id» = «transaction_id»; version = version; «maximum_message_octets» = «maximum_message_octets» }) «monotonic_ms» ⌝ }
+        ensures { λ r. ⌜ made r ≡ tryNewOf (record { peer = peer; protocol = protocol; «transaction_id» = «transaction_id»; version = version; profile = profile; «maximum_message_octets» = «maximum_message_octets» }) «monotonic_ms» ⌝ }
     {
         let terms = Terms {
             peer,
             protocol,
             transaction_id,
             version,
+            profile,
             maximum_message_octets,
         };
         match terms_check(terms) {
@@ -251,13 +258,7 @@ impl Receiver {
         let held = self.held;
         let slot = self.slots[0];
         let first = slot.kind;
-        let bad = impossible(
-            terms.maximum_message_octets,
-            progress,
-            held,
-            &self.lengths,
-            first,
-        );
+        let bad = impossible(terms, progress, held, &self.lengths, first);
         let last = progress.last_monotonic_ms;
         match clock_check(store.len(), bad, last, monotonic_ms) {
             Check::Refused(e) => Advance {
@@ -293,13 +294,7 @@ impl Receiver {
         let held = self.held;
         let slot = self.slots[0];
         let first = slot.kind;
-        let bad = impossible(
-            terms.maximum_message_octets,
-            progress,
-            held,
-            &self.lengths,
-            first,
-        );
+        let bad = impossible(terms, progress, held, &self.lengths, first);
         let last = progress.last_monotonic_ms;
         match closing_check(store.len(), bad, last, monotonic_ms, allowed) {
             Check::Refused(e) => Cancel {
@@ -351,20 +346,14 @@ impl Receiver {
         store: &mut [u8],
         output: &mut [u8],
     ) -> Receive
-        ensures { λ r. ⌜ received r (now (store .exit)) (now (output .exit)) ≡ receiveOf 300000 self (record { peer = peer; protocol = protocol; segment = segment; octets = now («data» .entry); unparsed = «unparsed_octets»; reading = «monotonic_ms» }) (now (store .entry)) (now (output .entry)) ⌝ }
+        ensures { λ r. ⌜ received r (now (store .exit)) (now (output .exit)) ≡ receiveOf (intervalOf self) self (record { peer = peer; protocol = protocol; segment = segment; octets = now («data» .entry); unparsed = «unparsed_octets»; reading = «monotonic_ms» }) (now (store .entry)) (now (output .entry)) ⌝ }
     {
         let terms = self.terms;
         let progress = self.progress;
         let held = self.held;
         let zeroth = self.slots[0];
         let first = zeroth.kind;
-        let bad = impossible(
-            terms.maximum_message_octets,
-            progress,
-            held,
-            &self.lengths,
-            first,
-        );
+        let bad = impossible(terms, progress, held, &self.lengths, first);
         let brought = Brought {
             peer,
             protocol,

@@ -3,7 +3,6 @@
 use crate::Deadline;
 use crate::Message;
 use crate::Progress;
-use crate::REASSEMBLY_MS;
 use crate::ReceiveAnswer;
 use crate::ReceiveError;
 use crate::Receiver;
@@ -34,6 +33,7 @@ use crate::states::late;
 use crate::states::receiving;
 use crate::states::smaller;
 use crate::states::wide;
+use link::profiles::receiver_interval;
 use octets::Compared;
 use response::Status;
 use tsar::Segment;
@@ -46,7 +46,7 @@ ghost use Prim.Native.Nat.{suc, _+_, _<_};
 ghost use lib.ListN.{length, take, drop};
 ghost use lib.Seq.{sets};
 ghost use Rattle.tsar.specs.Kinds.{prohibited as prohibitedOf};
-ghost use Rattle.receiver.specs.Record.{joined, receiving as receivingOf, complete as completeOf, timed as timedOf};
+ghost use Rattle.receiver.specs.Record.{joined, intervalOf, receiving as receivingOf, complete as completeOf, timed as timedOf};
 ghost use Rattle.receiver.specs.Receive.{repeats, keeps, finishes, settle as settleOf};
 ghost use Rattle.receiver.specs.Says.{received};
 ghost use Rattle.receiver.specs.Steps.{arrived, closedProgress, failed, tooLate, keptProgress, turned, repeatFound, Leaves, Fits, Recorded, Found, settledOf, closesOf, takenOf};
@@ -132,12 +132,12 @@ fn repeat_status(state: ReceiverState) -> Status
 }
 
 // The deadline after a repeat: a new one while receiving.
-fn repeat_deadline(state: ReceiverState, old: Deadline, reading: u64) -> Deadline
-    requires { ⌜ reading + 300000 < 18446744073709551616 ⌝ }
-    ensures { λ r. ⌜ r ≡ cond (receivingOf state) (Deadline.At (reading + 300000)) old ⌝ }
+fn repeat_deadline(state: ReceiverState, old: Deadline, reading: u64, interval: u64) -> Deadline
+    requires { ⌜ reading + interval < 18446744073709551616 ⌝ }
+    ensures { λ r. ⌜ r ≡ cond (receivingOf state) (Deadline.At (reading + interval)) old ⌝ }
 {
     if receiving(state) {
-        Deadline::At(reading + REASSEMBLY_MS)
+        Deadline::At(reading + interval)
     } else {
         old
     }
@@ -224,8 +224,8 @@ impl Receiver {
 
     // The same segment again.
     fn repeat(self, segment: Segment, reading: u64) -> Turn
-        requires { ⌜ reading + 300000 < 18446744073709551616 ⌝ }
-        ensures { λ r. ⌜ Leaves self r [] [] (settleOf 300000 repeats self (arrived segment [] reading) [] []) ⌝ }
+        requires { ⌜ reading + intervalOf self < 18446744073709551616 ⌝ }
+        ensures { λ r. ⌜ Leaves self r [] [] (settleOf (intervalOf self) repeats self (arrived segment [] reading) [] []) ⌝ }
     {
         let terms = self.terms;
         let progress = self.progress;
@@ -235,7 +235,8 @@ impl Receiver {
         let standing = standing_of(progress, held);
         let status = repeat_status(state);
         let response = required_response(terms.transaction_id, standing, segment, status);
-        let deadline = repeat_deadline(state, old, reading);
+        let interval = receiver_interval(terms.profile);
+        let deadline = repeat_deadline(state, old, reading, interval);
         let next = timed(progress, deadline, reading);
         let reception = Reception {
             response,
@@ -268,14 +269,15 @@ impl Receiver {
     // A segment that leaves the message incomplete.
     fn keep(self, segment: Segment, data: &[u8], reading: u64, store: &mut [u8]) -> Turn
         requires { ⌜ Fits self (length (now «data»)) reading ⌝ }
-        ensures { λ r. ⌜ received (turned self segment (length (now («data» .entry))) r) (now (store .exit)) [] ≡ settleOf 300000 keeps self (arrived segment (now («data» .entry)) reading) (now (store .entry)) [] ⌝ }
+        ensures { λ r. ⌜ received (turned self segment (length (now («data» .entry))) r) (now (store .exit)) [] ≡ settleOf (intervalOf self) keeps self (arrived segment (now («data» .entry)) reading) (now (store .entry)) [] ⌝ }
     {
         let terms = self.terms;
         let old = self.progress;
         let marks = self.held;
         let sequence = segment.sequence_number;
         octets::put(store, SLOT_OCTETS * sequence as usize, data);
-        let deadline = Deadline::At(reading + REASSEMBLY_MS);
+        let interval = receiver_interval(terms.profile);
+        let deadline = Deadline::At(reading + interval);
         let progress = kept_progress(
             old,
             segment,
@@ -314,7 +316,7 @@ impl Receiver {
         output: &mut [u8],
     ) -> Turn
         requires { ⌜ Fits self (length (now «data»)) reading ⌝ }
-        ensures { λ r. ⌜ received (turned self segment (length (now («data» .entry))) r) (now (store .exit)) (now (output .exit)) ≡ settleOf 300000 finishes self (arrived segment (now («data» .entry)) reading) (now (store .entry)) (now (output .entry)) ⌝ }
+        ensures { λ r. ⌜ received (turned self segment (length (now («data» .entry))) r) (now (store .exit)) (now (output .exit)) ≡ settleOf (intervalOf self) finishes self (arrived segment (now («data» .entry)) reading) (now (store .entry)) (now (output .entry)) ⌝ }
     {
         let terms = self.terms;
         let old = self.progress;

@@ -50,6 +50,7 @@ pub fn error_code(e: ReceiveError) -> u32
         ReceiveError::Store => 256 * 60,
         ReceiveError::Output => 256 * 61,
         ReceiveError::ImpossibleState => 256 * 62,
+        ReceiveError::Profile => 256 * 64,
     }
 }
 

@@ -10,6 +10,7 @@ use lib.Seq.{sets}
 use Rattle.tsar.specs.Rows.{Refusal, refusal}
 use Rattle.receiver.specs.declared.Receiver.{Receiver}
 use Rattle.receiver.specs.Answers.{Answer, Step}
+use Rattle.receiver.specs.Record.{intervalOf}
 use Rattle.receiver.specs.Receive.{receiveOf}
 use Rattle.receiver.specs.Advance.{Made, tryNewOf, advanceOf, cancelOf, releaseOf}
 use Rattle.codec_c.specs.Codes.{codeOf, short, misspelled, unnamed, unlessRefused}
@@ -59,10 +60,10 @@ stepCall octets image answer s =
 
 -- ---- catkhize_receiver_receive
 
--- a record is 3930 octets, a segment 15 and an answer 55; the protocols are 0 to 2
+-- a record is 3931 octets, a segment 15 and an answer 55; the protocols are 0 to 2
 abbrev pub receiveTests : List ℕ → ℕ → List ℕ → List ℕ → List (Bool × Refusal)
 receiveTests image protocol segment answer =
-    (ltb (length image) 3930, short)
+    (ltb (length image) 3931, short)
     ∷ (ltb (length segment) 15, short)
     ∷ (ltb (length answer) 55, short)
     ∷ (not (imageOk image), misspelled)
@@ -70,12 +71,12 @@ receiveTests image protocol segment answer =
     ∷ (ltb 2 protocol, unnamed)
     ∷ []
 
--- the interval is 300000 ms
+-- the interval is that of the receiver which the record spells
 unfoldable pub receiveCall : (image store output : List ℕ) (kind width value protocol octet : ℕ) (segment octets : List ℕ) (unparsed reading : ℕ) (answer : List ℕ) → Call
 receiveCall image store output kind width value protocol octet segment octets unparsed reading answer =
     unlessRefused (refusal (receiveTests image protocol segment answer)) (λ n. call n image store output answer)
     (stepCall receptionOctets image answer
-    (receiveOf 300000 (recordOf image)
+    (receiveOf (intervalOf (recordOf image)) (recordOf image)
     (record {
       peer = record { kind = kind; width = width; value = value };
       protocol = protocolOf protocol octet;
@@ -88,9 +89,9 @@ receiveCall image store output kind width value protocol octet segment octets un
 
 -- ---- catkhize_receiver_advance
 
--- a record is 3930 octets and an answer 46
+-- a record is 3931 octets and an answer 46
 abbrev pub advanceTests : List ℕ → List ℕ → List (Bool × Refusal)
-advanceTests image answer = (ltb (length image) 3930, short) ∷ (ltb (length answer) 46, short) ∷ (not (imageOk image), misspelled) ∷ []
+advanceTests image answer = (ltb (length image) 3931, short) ∷ (ltb (length answer) 46, short) ∷ (not (imageOk image), misspelled) ∷ []
 
 unfoldable pub advanceCall : (image store : List ℕ) (reading : ℕ) (answer : List ℕ) → Call
 advanceCall image store reading answer =
@@ -99,9 +100,9 @@ advanceCall image store reading answer =
 
 -- ---- catkhize_receiver_cancel and catkhize_receiver_release
 
--- a record is 3930 octets
+-- a record is 3931 octets
 abbrev pub closingTests : List ℕ → List (Bool × Refusal)
-closingTests image = (ltb (length image) 3930, short) ∷ (not (imageOk image), misspelled) ∷ []
+closingTests image = (ltb (length image) 3931, short) ∷ (not (imageOk image), misspelled) ∷ []
 
 -- either, by the step that it makes; neither is lent an answer
 abbrev pub closingCall : (Receiver → List ℕ → ℕ → Step) → (image store : List ℕ) (reading : ℕ) → Call
@@ -117,9 +118,9 @@ releaseCall image store reading = closingCall releaseOf image store reading
 
 -- ---- catkhize_receiver_new
 
--- a record is 3930 octets, and the protocols are 0 to 2
+-- a record is 3931 octets, and the protocols are 0 to 2
 abbrev pub newTests : List ℕ → ℕ → List (Bool × Refusal)
-newTests image protocol = (ltb (length image) 3930, short) ∷ (ltb 2 protocol, unnamed) ∷ []
+newTests image protocol = (ltb (length image) 3931, short) ∷ (ltb 2 protocol, unnamed) ∷ []
 
 -- what try_new gives, as a call: its receiver is put into the record, and beside a refusal nothing is
 abbrev pub madeCall : List ℕ → Option Refusal → Receiver → Call
@@ -137,8 +138,8 @@ madeCall image none r =
 abbrev pub newGives : List ℕ → Made → Call
 newGives image m = madeCall image (m .refused) (m .receiver)
 
-unfoldable pub newCall : (image : List ℕ) (kind width value protocol octet transaction version maximum reading : ℕ) → Call
-newCall image kind width value protocol octet transaction version maximum reading =
+unfoldable pub newCall : (image : List ℕ) (kind width value protocol octet transaction version profile maximum reading : ℕ) → Call
+newCall image kind width value protocol octet transaction version profile maximum reading =
     unlessRefused (refusal (newTests image protocol)) (λ n. call n image [] [] [])
     (newGives image
     (tryNewOf
@@ -147,6 +148,7 @@ newCall image kind width value protocol octet transaction version maximum readin
       protocol = protocolOf protocol octet;
       «transaction_id» = transaction;
       version = version;
+      profile = profile;
       «maximum_message_octets» = maximum;
     })
     reading))

@@ -11,6 +11,7 @@ use Rattle.tsar.specs.declared.Segment.{Segment}
 use Rattle.link.specs.declared.HigherLayerProtocol.{HigherLayerProtocol}
 use Rattle.receiver.specs.declared.Receiver.{Receiver}
 use Rattle.receiver.specs.Answers.{Answer, Step}
+use Rattle.receiver.specs.Record.{intervalOf}
 use Rattle.receiver.specs.Receive.{receiveOf}
 use Rattle.receiver.specs.Advance.{Made, tryNewOf, advanceOf, cancelOf, releaseOf}
 use Rattle.codec_c.specs.Codes.{codeOf, unlessRefused}
@@ -33,14 +34,14 @@ module _ {A : Type 0} (left : ℕ → A) (done : A) where
 -- ---- records
 
 -- octets into whose front a receiver is put spell it
-pub spelled : (image i : List ℕ) (r : Receiver) → 3930 ≤ length image → ReceiverFits r → i ≡ sets image 0 (imageOf r) → spelledBy i ≡ some r
+pub spelled : (image i : List ℕ) (r : Receiver) → 3931 ≤ length image → ReceiverFits r → i ≡ sets image 0 (imageOf r) → spelledBy i ≡ some r
 unfolding spelledBy
 spelled image i r room fits e =
     let w = put-spells receiver-layout image r i room fits e in
     ap (λ (b : Bool). cond b (some (recordOf i)) none) (w .1) ∙ ap some (w .0)
 
 -- a step whose receiver is put into the record and whose answer is written is the call of the step
-pub steps : (octets : Answer → List ℕ) (image answer : List ℕ) (s : Step) (n : ℕ) (i a : List ℕ) → 3930 ≤ length image → ReceiverFits (s .receiver)
+pub steps : (octets : Answer → List ℕ) (image answer : List ℕ) (s : Step) (n : ℕ) (i a : List ℕ) → 3931 ≤ length image → ReceiverFits (s .receiver)
     → n ≡ answerCode (s .answer) → i ≡ sets image 0 (imageOf (s .receiver)) → a ≡ sets answer 0 (octets (s .answer))
     → call n i (s .store) (s .output) a ≡ stepCall octets image answer s
 steps octets image answer s n i a room fits p q v =
@@ -59,13 +60,13 @@ module _ (image store output : List ℕ) (kind width value protocol octet : ℕ)
   pub receive-passed : (r : Receiver) (p : HigherLayerProtocol) (s : Segment) → refusal (receiveTests image protocol segment answer) ≡ none
       → r ≡ recordOf image → p ≡ protocolOf protocol octet → s ≡ segmentOf segment
       → stepCall receptionOctets image answer
-      (receiveOf 300000 r (record { peer = record { kind = kind; width = width; value = value }; protocol = p; segment = s; octets = octets; unparsed = unparsed; reading = reading }) store output)
+      (receiveOf (intervalOf r) r (record { peer = record { kind = kind; width = width; value = value }; protocol = p; segment = s; octets = octets; unparsed = unparsed; reading = reading }) store output)
       ≡ receiveCall image store output kind width value protocol octet segment octets unparsed reading answer
   unfolding receiveCall
   receive-passed r p s e a b d =
       (λ i.
       stepCall receptionOctets image answer
-      (receiveOf 300000 (a i) (record { peer = record { kind = kind; width = width; value = value }; protocol = b i; segment = d i; octets = octets; unparsed = unparsed; reading = reading }) store output))
+      (receiveOf (intervalOf (a i)) (a i) (record { peer = record { kind = kind; width = width; value = value }; protocol = b i; segment = d i; octets = octets; unparsed = unparsed; reading = reading }) store output))
       ∙ when-passed (λ n. call n image store output answer) _ e
 
 -- ---- catkhize_receiver_advance
@@ -113,26 +114,26 @@ module _ (image store : List ℕ) (reading : ℕ) where
 -- ---- catkhize_receiver_new
 
 -- a receiver that is made and put into the record
-pub makes : (image i : List ℕ) (m : Made) (r : Receiver) → 3930 ≤ length image → ReceiverFits r → i ≡ sets image 0 (imageOf r) → record { refused = none; receiver = r } ≡ m
+pub makes : (image i : List ℕ) (m : Made) (r : Receiver) → 3931 ≤ length image → ReceiverFits r → i ≡ sets image 0 (imageOf r) → record { refused = none; receiver = r } ≡ m
     → call 0 i [] [] [] ≡ newGives image m
 makes image i m r room fits q e =
     let w = spelled image i r room fits q in
     let done : call 0 i [] [] [] ≡ newGives image (record { refused = none; receiver = r }) = λ k. record { code = 0; image = q k; receiver = w k; store = []; output = []; answer = [] } in
     done ∙ ap (newGives image) e
 
-module _ (image : List ℕ) (kind width value protocol octet transaction version maximum reading : ℕ) where
+module _ (image : List ℕ) (kind width value protocol octet transaction version profile maximum reading : ℕ) where
   pub new-refused : (x : Refusal) → refusal (newTests image protocol) ≡ some x
-      → call (codeOf x) image [] [] [] ≡ newCall image kind width value protocol octet transaction version maximum reading
+      → call (codeOf x) image [] [] [] ≡ newCall image kind width value protocol octet transaction version profile maximum reading
   unfolding newCall
   new-refused x e = when-refused (λ n. call n image [] [] []) _ x e
 
   pub new-passed : (p : HigherLayerProtocol) → refusal (newTests image protocol) ≡ none → p ≡ protocolOf protocol octet
       → newGives image
-      (tryNewOf (record { peer = record { kind = kind; width = width; value = value }; protocol = p; «transaction_id» = transaction; version = version; «maximum_message_octets» = maximum }) reading)
-      ≡ newCall image kind width value protocol octet transaction version maximum reading
+      (tryNewOf (record { peer = record { kind = kind; width = width; value = value }; protocol = p; «transaction_id» = transaction; version = version; profile = profile; «maximum_message_octets» = maximum }) reading)
+      ≡ newCall image kind width value protocol octet transaction version profile maximum reading
   unfolding newCall
   new-passed p e b =
       (λ i.
       newGives image
-      (tryNewOf (record { peer = record { kind = kind; width = width; value = value }; protocol = b i; «transaction_id» = transaction; version = version; «maximum_message_octets» = maximum }) reading))
+      (tryNewOf (record { peer = record { kind = kind; width = width; value = value }; protocol = b i; «transaction_id» = transaction; version = version; profile = profile; «maximum_message_octets» = maximum }) reading))
       ∙ when-passed (λ n. call n image [] [] []) _ e

@@ -1,4 +1,4 @@
--- The first 90 octets of a receiver: layout version (the number 1), terms (22), progress (35), held marks (32). Assumes nothing.
+-- The first 91 octets of a receiver: layout version (the number 2), terms (23), progress (35), held marks (32). Assumes nothing.
 use mathlib.Core.Path.{_≡_, refl, sym, ap, ap₂, _∙_}
 use mathlib.Core.List.{List, [], _∷_, _++_, append-assoc}
 use Prim.Native.Nat.{ℕ, suc, _+_, _<_}
@@ -25,11 +25,11 @@ use Rattle.receiver_image.specs.declared.Head.{Head}
 abbrev Fit : ℕ → Type 0
 Fit x = x < 18446744073709551616
 
--- ---- terms: peer, protocol, transaction, version, maximum
+-- ---- terms: peer, protocol, transaction, version, profile, maximum
 
 unfoldable pub termsImage : Terms → List ℕ
 termsImage t =
-    peerImage (t .peer) ++ (protocolImage (t .protocol) ++ (t .«transaction_id» ∷ t .version ∷ spell 8 (t .«maximum_message_octets»)))
+    peerImage (t .peer) ++ (protocolImage (t .protocol) ++ (t .«transaction_id» ∷ t .version ∷ t .profile ∷ spell 8 (t .«maximum_message_octets»)))
 
 unfoldable pub termsOf : List ℕ → Terms
 termsOf l =
@@ -38,7 +38,8 @@ termsOf l =
       protocol = protocolIn (drop 10 l);
       «transaction_id» = getD l 12 0;
       version = getD l 13 0;
-      «maximum_message_octets» = numberOf 8 (drop 14 l);
+      profile = getD l 14 0;
+      «maximum_message_octets» = numberOf 8 (drop 15 l);
     }
 
 pub record TermsFit (t : Terms) : Type 0 where
@@ -46,37 +47,39 @@ pub record TermsFit (t : Terms) : Type 0 where
   pub maximum : t .«maximum_message_octets» < 18446744073709551616
 
 abbrev TermsParts : Type 0
-TermsParts = MobileIdentity × (HigherLayerProtocol × (ℕ × (ℕ × ℕ)))
+TermsParts = MobileIdentity × (HigherLayerProtocol × (ℕ × (ℕ × (ℕ × ℕ))))
 
 abbrev termsFrom : TermsParts → Terms
-termsFrom x = record { peer = x .0; protocol = x .1 .0; «transaction_id» = x .1 .1 .0; version = x .1 .1 .1 .0; «maximum_message_octets» = x .1 .1 .1 .1 }
+termsFrom x = record { peer = x .0; protocol = x .1 .0; «transaction_id» = x .1 .1 .0; version = x .1 .1 .1 .0; profile = x .1 .1 .1 .1 .0; «maximum_message_octets» = x .1 .1 .1 .1 .1 }
 
 abbrev termsParts : Terms → TermsParts
-termsParts t = (t .peer, (t .protocol, (t .«transaction_id», (t .version, t .«maximum_message_octets»))))
+termsParts t = (t .peer, (t .protocol, (t .«transaction_id», (t .version, (t .profile, t .«maximum_message_octets»)))))
 
 abbrev readTerms : List ℕ → TermsParts
-readTerms = readBoth peerOf 10 (readBoth protocolIn 2 (readBoth readOctet 1 (readBoth readOctet 1 (numberOf 8))))
+readTerms = readBoth peerOf 10 (readBoth protocolIn 2 (readBoth readOctet 1 (readBoth readOctet 1 (readBoth readOctet 1 (numberOf 8)))))
 
-terms-parts : Layout (spellBoth peerImage (spellBoth protocolImage (spellBoth spellOctet (spellBoth spellOctet (spell 8))))) readTerms 22 (λ x. PeerFits (x .0) × (AnyProtocol (x .1 .0) × (AnyOctet (x .1 .1 .0) × (AnyOctet (x .1 .1 .1 .0) × Fit (x .1 .1 .1 .1)))))
-terms-parts = both-layout peer-layout (both-layout protocol-layout (both-layout octet-layout (both-layout octet-layout (number-layout 8))))
+terms-parts : Layout (spellBoth peerImage (spellBoth protocolImage (spellBoth spellOctet (spellBoth spellOctet (spellBoth spellOctet (spell 8)))))) readTerms 23 (λ x. PeerFits (x .0) × (AnyProtocol (x .1 .0) × (AnyOctet (x .1 .1 .0) × (AnyOctet (x .1 .1 .1 .0) × (AnyOctet (x .1 .1 .1 .1 .0) × Fit (x .1 .1 .1 .1 .1))))))
+terms-parts = both-layout peer-layout (both-layout protocol-layout (both-layout octet-layout (both-layout octet-layout (both-layout octet-layout (number-layout 8)))))
 
 terms-reads : (l : List ℕ) → termsOf l ≡ termsFrom (readTerms l)
 unfolding termsOf
 terms-reads l =
     let a : drop 12 l ≡ drop 2 (drop 10 l) = sym (drop-drop 2 10 l) in
     let b : drop 13 l ≡ drop 1 (drop 2 (drop 10 l)) = sym (drop-drop 1 12 l) ∙ ap (drop 1) a in
-    let d : drop 14 l ≡ drop 1 (drop 1 (drop 2 (drop 10 l))) = sym (drop-drop 1 13 l) ∙ ap (drop 1) b in
+    let c : drop 14 l ≡ drop 1 (drop 1 (drop 2 (drop 10 l))) = sym (drop-drop 1 13 l) ∙ ap (drop 1) b in
+    let d : drop 15 l ≡ drop 1 (drop 1 (drop 1 (drop 2 (drop 10 l)))) = sym (drop-drop 1 14 l) ∙ ap (drop 1) c in
     let e : getD l 12 0 ≡ getD (drop 2 (drop 10 l)) 0 0 = sym (getD-drop 12 l 0 0) ∙ ap (λ (m : List ℕ). getD m 0 0) a in
     let f : getD l 13 0 ≡ getD (drop 1 (drop 2 (drop 10 l))) 0 0 = sym (getD-drop 13 l 0 0) ∙ ap (λ (m : List ℕ). getD m 0 0) b in
-    λ i. record { peer = peerOf l; protocol = protocolIn (drop 10 l); «transaction_id» = e i; version = f i; «maximum_message_octets» = numberOf 8 (d i) }
+    let g : getD l 14 0 ≡ getD (drop 1 (drop 1 (drop 2 (drop 10 l)))) 0 0 = sym (getD-drop 14 l 0 0) ∙ ap (λ (m : List ℕ). getD m 0 0) c in
+    λ i. record { peer = peerOf l; protocol = protocolIn (drop 10 l); «transaction_id» = e i; version = f i; profile = g i; «maximum_message_octets» = numberOf 8 (d i) }
 
-terms-read-wide : (l : List ℕ) → length (termsImage (termsOf l)) ≡ 22
+terms-read-wide : (l : List ℕ) → length (termsImage (termsOf l)) ≡ 23
 unfolding termsImage
 terms-read-wide l = ap (λ (t : Terms). length (termsImage t)) (terms-reads l) ∙ terms-parts .reads-wide l
 
-pub terms-layout : Layout termsImage termsOf 22 TermsFit
+pub terms-layout : Layout termsImage termsOf 23 TermsFit
 unfolding termsImage
-terms-layout = as-layout terms-parts termsFrom termsParts (λ t. refl) termsImage termsOf TermsFit (λ t. refl) terms-reads (λ t f. (f .peer, (tt, (tt, (tt, f .maximum))))) terms-read-wide
+terms-layout = as-layout terms-parts termsFrom termsParts (λ t. refl) termsImage termsOf TermsFit (λ t. refl) terms-reads (λ t f. (f .peer, (tt, (tt, (tt, (tt, f .maximum)))))) terms-read-wide
 
 -- ---- progress: state, services, end, stated length; stored octets, deadline, last reading
 
@@ -164,10 +167,10 @@ pub record TimesFit (p : Progress) : Type 0 where
 -- ---- the head
 
 unfoldable pub headImage : Head → List ℕ
-headImage h = 1 ∷ (termsImage (h .terms) ++ (progressImage (h .progress) ++ marksImage (h .held)))
+headImage h = 2 ∷ (termsImage (h .terms) ++ (progressImage (h .progress) ++ marksImage (h .held)))
 
 unfoldable pub headOf : List ℕ → Head
-headOf l = record { terms = termsOf (drop 1 l); progress = progressOf (drop 23 l); held = marksOf (drop 58 l) }
+headOf l = record { terms = termsOf (drop 1 l); progress = progressOf (drop 24 l); held = marksOf (drop 59 l) }
 
 pub record HeadFits (h : Head) : Type 0 where
   pub terms : TermsFit (h .terms)
@@ -175,38 +178,38 @@ pub record HeadFits (h : Head) : Type 0 where
   pub held : MarksFit (h .held)
 
 abbrev readHead : List ℕ → ℕ × (Terms × (Progress × Words))
-readHead = readBoth readOctet 1 (readBoth termsOf 22 (readBoth progressOf 35 marksOf))
+readHead = readBoth readOctet 1 (readBoth termsOf 23 (readBoth progressOf 35 marksOf))
 
-head-parts : Layout (spellBoth spellOctet (spellBoth termsImage (spellBoth progressImage marksImage))) readHead 90 (λ x. AnyOctet (x .0) × (TermsFit (x .1 .0) × (ProgressFits (x .1 .1 .0) × MarksFit (x .1 .1 .1))))
+head-parts : Layout (spellBoth spellOctet (spellBoth termsImage (spellBoth progressImage marksImage))) readHead 91 (λ x. AnyOctet (x .0) × (TermsFit (x .1 .0) × (ProgressFits (x .1 .1 .0) × MarksFit (x .1 .1 .1))))
 head-parts = both-layout octet-layout (both-layout terms-layout (both-layout progress-layout marks-layout))
 
 head-reads : (l : List ℕ) → headOf l ≡ record { terms = readHead l .1 .0; progress = readHead l .1 .1 .0; held = readHead l .1 .1 .1 }
 unfolding headOf
 head-reads l = simp drop-drop
 
-head-read-wide : (l : List ℕ) → length (headImage (headOf l)) ≡ 90
+head-read-wide : (l : List ℕ) → length (headImage (headOf l)) ≡ 91
 unfolding headImage
 head-read-wide l = ap (λ (h : Head). length (headImage h)) (head-reads l) ∙ head-parts .reads-wide l
 
-pub head-layout : Layout headImage headOf 90 HeadFits
+pub head-layout : Layout headImage headOf 91 HeadFits
 unfolding headImage
 head-layout =
-    as-layout head-parts (λ x. record { terms = x .1 .0; progress = x .1 .1 .0; held = x .1 .1 .1 }) (λ h. (1, (h .terms, (h .progress, h .held)))) (λ h. refl) headImage headOf
+    as-layout head-parts (λ x. record { terms = x .1 .0; progress = x .1 .1 .0; held = x .1 .1 .1 }) (λ h. (2, (h .terms, (h .progress, h .held)))) (λ h. refl) headImage headOf
     HeadFits (λ h. refl) head-reads (λ h f. (tt, (f .terms, (f .progress, f .held)))) head-read-wide
 
 -- ---- as code writes it, part by part
 
 module _ (l : List ℕ) (at : ℕ) (t : Terms) (p x y z : List ℕ) where
   pub terms-put : p ≡ protocolImage (t .protocol) → x ≡ sets l at (peerImage (t .peer))
-      → y ≡ sets x (at + 10) (getD p 0 0 ∷ getD p 1 0 ∷ t .«transaction_id» ∷ t .version ∷ []) → z ≡ sets y (at + 14) (spell 8 (t .«maximum_message_octets»))
+      → y ≡ sets x (at + 10) (getD p 0 0 ∷ getD p 1 0 ∷ t .«transaction_id» ∷ t .version ∷ t .profile ∷ []) → z ≡ sets y (at + 15) (spell 8 (t .«maximum_message_octets»))
       → z ≡ sets l at (termsImage t)
   unfolding termsImage peerImage protocolImage spell
   terms-put e p q r =
       let a : List ℕ = peerImage (t .peer) in
-      let b : List ℕ = protocolImage (t .protocol) ++ (t .«transaction_id» ∷ t .version ∷ []) in
-      let q′ : y ≡ sets x (at + 10) b = q ∙ ap (λ (m : List ℕ). sets x (at + 10) (getD m 0 0 ∷ getD m 1 0 ∷ t .«transaction_id» ∷ t .version ∷ [])) e in
+      let b : List ℕ = protocolImage (t .protocol) ++ (t .«transaction_id» ∷ t .version ∷ t .profile ∷ []) in
+      let q′ : y ≡ sets x (at + 10) b = q ∙ ap (λ (m : List ℕ). sets x (at + 10) (getD m 0 0 ∷ getD m 1 0 ∷ t .«transaction_id» ∷ t .version ∷ t .profile ∷ [])) e in
       let two : y ≡ sets l at (a ++ b) = put-next l at a b x y (at + 10) 10 p refl refl q′ in
-      put-next l at (a ++ b) (spell 8 (t .«maximum_message_octets»)) y z (at + 14) 14 two refl refl r
+      put-next l at (a ++ b) (spell 8 (t .«maximum_message_octets»)) y z (at + 15) 15 two refl refl r
 
 module _ (l : List ℕ) (at : ℕ) (p : Progress) where
   pub standing-put : (x y z t : List ℕ) → x ≡ sets l at (stateImage (p .state)) → y ≡ sets x (at + 2) (optionalImage (p .services)) → z ≡ sets y (at + 5) (endImage (p .«end_sequence»))
@@ -234,17 +237,17 @@ module _ (l : List ℕ) (at : ℕ) (p : Progress) where
   progress-put x y a b = put-next l at (standingImage p) (timesImage p) x y (at + 10) 10 a refl refl b
 
 module _ (l : List ℕ) (h : Head) (x y z t : List ℕ) where
-  pub head-put : HeadFits h → x ≡ sets l 0 (1 ∷ []) → y ≡ sets x 1 (termsImage (h .terms)) → z ≡ sets y 23 (progressImage (h .progress)) → t ≡ sets z 58 (marksImage (h .held))
+  pub head-put : HeadFits h → x ≡ sets l 0 (2 ∷ []) → y ≡ sets x 1 (termsImage (h .terms)) → z ≡ sets y 24 (progressImage (h .progress)) → t ≡ sets z 59 (marksImage (h .held))
       → t ≡ sets l 0 (headImage h)
   unfolding headImage
   head-put f a b c d =
       let m : List ℕ = termsImage (h .terms) in
       let p : List ℕ = progressImage (h .progress) in
-      let u : length (1 ∷ m) ≡ 23 = ap suc (terms-layout .wide (h .terms) (f .terms)) in
-      let v : length (1 ∷ (m ++ p)) ≡ 58 = ap suc (length-append m p ∙ ap₂ (λ (i j : ℕ). i + j) (terms-layout .wide (h .terms) (f .terms)) (progress-layout .wide (h .progress) (f .progress))) in
-      let two : y ≡ sets l 0 (1 ∷ m) = put-next l 0 (1 ∷ []) m x y 1 1 a refl refl b in
-      let three : z ≡ sets l 0 (1 ∷ (m ++ p)) = put-next l 0 (1 ∷ m) p y z 23 23 two u refl c in
-      put-next l 0 (1 ∷ (m ++ p)) (marksImage (h .held)) z t 58 58 three v refl d ∙ ap (λ (n : List ℕ). sets l 0 (1 ∷ n)) (append-assoc m p (marksImage (h .held)))
+      let u : length (2 ∷ m) ≡ 24 = ap suc (terms-layout .wide (h .terms) (f .terms)) in
+      let v : length (2 ∷ (m ++ p)) ≡ 59 = ap suc (length-append m p ∙ ap₂ (λ (i j : ℕ). i + j) (terms-layout .wide (h .terms) (f .terms)) (progress-layout .wide (h .progress) (f .progress))) in
+      let two : y ≡ sets l 0 (2 ∷ m) = put-next l 0 (2 ∷ []) m x y 1 1 a refl refl b in
+      let three : z ≡ sets l 0 (2 ∷ (m ++ p)) = put-next l 0 (2 ∷ m) p y z 24 24 two u refl c in
+      put-next l 0 (2 ∷ (m ++ p)) (marksImage (h .held)) z t 59 59 three v refl d ∙ ap (λ (n : List ℕ). sets l 0 (2 ∷ n)) (append-assoc m p (marksImage (h .held)))
 
 -- ---- and reads it, octet by octet
 

@@ -1,4 +1,4 @@
--- The layout RECEIVER, 3,930 octets: head (90), data lengths (256 x 2), slots (256 x 13). Any record whose numbers fit their types is read
+-- The layout RECEIVER, 3,931 octets: head (91), data lengths (256 x 2), slots (256 x 13). Any record whose numbers fit their types is read
 -- back as it was, impossible ones too, and what is read and put back changes no octet (receiver-layout, with the laws of every layout).
 -- Assumes nothing.
 use mathlib.Core.Path.{_≡_, refl, sym, ap, ap₂, _∙_}
@@ -55,11 +55,11 @@ unfoldable pub imageOf : Receiver → List ℕ
 imageOf r = headImage (headIn r) ++ (spellAll (spell 2) (r .lengths) ++ spellAll slotImage (r .slots))
 
 unfoldable pub recordOf : List ℕ → Receiver
-recordOf l = receiverOf (headOf l) (lengthsOf (drop 90 l)) (slotsOf (drop 602 l))
+recordOf l = receiverOf (headOf l) (lengthsOf (drop 91 l)) (slotsOf (drop 603 l))
 
--- whether 3,930 octets spell a receiver
+-- whether 3,931 octets spell a receiver
 abbrev pub imageOk : List ℕ → Bool
-imageOk l = spells imageOf recordOf 3930 l
+imageOk l = spells imageOf recordOf 3931 l
 
 -- numbers fit their types, and there are 256 slots
 pub record ReceiverFits (r : Receiver) : Type 0 where
@@ -76,25 +76,25 @@ pub slots-layout : Layout (spellAll slotImage) slotsOf 3328 (AllFit SlotFits 256
 slots-layout = all-layout slot-layout noSlot 256
 
 abbrev readParts : List ℕ → Head × (List ℕ × List Slot)
-readParts = readBoth headOf 90 (readBoth lengthsOf 512 slotsOf)
+readParts = readBoth headOf 91 (readBoth lengthsOf 512 slotsOf)
 
 abbrev behind-layout : Layout (spellBoth (spellAll (spell 2)) (spellAll slotImage)) (readBoth lengthsOf 512 slotsOf) 3840 (λ x. AllFit LengthFits 256 0 (x .0) × AllFit SlotFits 256 noSlot (x .1))
 behind-layout = both-layout lengths-layout slots-layout
 
-parts-layout : Layout (spellBoth headImage (spellBoth (spellAll (spell 2)) (spellAll slotImage))) readParts 3930 (λ x. HeadFits (x .0) × (AllFit LengthFits 256 0 (x .1 .0) × AllFit SlotFits 256 noSlot (x .1 .1)))
+parts-layout : Layout (spellBoth headImage (spellBoth (spellAll (spell 2)) (spellAll slotImage))) readParts 3931 (λ x. HeadFits (x .0) × (AllFit LengthFits 256 0 (x .1 .0) × AllFit SlotFits 256 noSlot (x .1 .1)))
 parts-layout = both-layout head-layout behind-layout
 
 record-reads : (l : List ℕ) → recordOf l ≡ receiverOf (readParts l .0) (readParts l .1 .0) (readParts l .1 .1)
 unfolding recordOf
 record-reads l =
-    let e : drop 602 l ≡ drop 512 (drop 90 l) = sym (drop-drop 512 90 l) in
-    ap (λ (m : List ℕ). receiverOf (headOf l) (lengthsOf (drop 90 l)) (slotsOf m)) e
+    let e : drop 603 l ≡ drop 512 (drop 91 l) = sym (drop-drop 512 91 l) in
+    ap (λ (m : List ℕ). receiverOf (headOf l) (lengthsOf (drop 91 l)) (slotsOf m)) e
 
-record-read-wide : (l : List ℕ) → length (imageOf (recordOf l)) ≡ 3930
+record-read-wide : (l : List ℕ) → length (imageOf (recordOf l)) ≡ 3931
 unfolding imageOf
 record-read-wide l = ap (λ (r : Receiver). length (imageOf r)) (record-reads l) ∙ parts-layout .reads-wide l
 
-pub receiver-layout : Layout imageOf recordOf 3930 ReceiverFits
+pub receiver-layout : Layout imageOf recordOf 3931 ReceiverFits
 unfolding imageOf
 receiver-layout =
     as-layout parts-layout (λ x. receiverOf (x .0) (x .1 .0) (x .1 .1)) (λ r. (headIn r, (r .lengths, r .slots))) (λ r. refl) imageOf recordOf ReceiverFits (λ r. refl) record-reads
@@ -111,34 +111,34 @@ pub image-ok : (r : Receiver) → ReceiverFits r → imageOk (imageOf r) ≡ tru
 image-ok r f = ap imageOk (sym (append-nil (imageOf r))) ∙ spelled-ok receiver-layout r f []
 
 -- a record that is read off octets that pass and put back changes none of them
-pub image-kept : (l : List ℕ) → 3930 ≤ length l → imageOk l ≡ true → sets l 0 (imageOf (recordOf l)) ≡ l
+pub image-kept : (l : List ℕ) → 3931 ≤ length l → imageOk l ≡ true → sets l 0 (imageOf (recordOf l)) ≡ l
 image-kept l h k = put-back receiver-layout l h k
 
 -- ---- as code tests, writes and reads it
 
 -- the test, part by part
-pub image-spells : (l : List ℕ) → 3930 ≤ length l → spells (spellAll (spell 2)) lengthsOf 512 (drop 90 l) ≡ true
-    → imageOk l ≡ (spells headImage headOf 90 l && allPass kindOk 13 256 (drop 602 l))
+pub image-spells : (l : List ℕ) → 3931 ≤ length l → spells (spellAll (spell 2)) lengthsOf 512 (drop 91 l) ≡ true
+    → imageOk l ≡ (spells headImage headOf 91 l && allPass kindOk 13 256 (drop 603 l))
 unfolding imageOf spells
 image-spells l h p =
-    let e : drop 512 (drop 90 l) ≡ drop 602 l = drop-drop 512 90 l in
-    let m : length (drop 90 l) ≡ length l - 90 = length-drop 90 l in
-    let n : length (drop 602 l) ≡ length l - 602 = length-drop 602 l in
-    ap (λ (r : Receiver). sameOctets (imageOf r) (take 3930 l)) (record-reads l)
+    let e : drop 512 (drop 91 l) ≡ drop 603 l = drop-drop 512 91 l in
+    let m : length (drop 91 l) ≡ length l - 91 = length-drop 91 l in
+    let n : length (drop 603 l) ≡ length l - 603 = length-drop 603 l in
+    ap (λ (r : Receiver). sameOctets (imageOf r) (take 3931 l)) (record-reads l)
     ∙ both-spells head-layout behind-layout l (omega arith)
-    ∙ ap (λ (t : Bool). spells headImage headOf 90 l && t)
-    (both-spells lengths-layout slots-layout (drop 90 l) (omega arith)
-    ∙ ap₂ (λ (a b : Bool). a && b) p (ap (λ (x : List ℕ). spells (spellAll slotImage) slotsOf 3328 x) e ∙ all-spells slot-layout noSlot 256 (drop 602 l) (omega arith)))
+    ∙ ap (λ (t : Bool). spells headImage headOf 91 l && t)
+    (both-spells lengths-layout slots-layout (drop 91 l) (omega arith)
+    ∙ ap₂ (λ (a b : Bool). a && b) p (ap (λ (x : List ℕ). spells (spellAll slotImage) slotsOf 3328 x) e ∙ all-spells slot-layout noSlot 256 (drop 603 l) (omega arith)))
 
 -- written part by part
 module _ (l : List ℕ) (r : Receiver) (x y z : List ℕ) where
-  pub image-put : ReceiverFits r → x ≡ sets l 0 (headImage (headIn r)) → y ≡ sets x 90 (spellAll (spell 2) (r .lengths)) → z ≡ sets y 602 (spellAll slotImage (r .slots))
+  pub image-put : ReceiverFits r → x ≡ sets l 0 (headImage (headIn r)) → y ≡ sets x 91 (spellAll (spell 2) (r .lengths)) → z ≡ sets y 603 (spellAll slotImage (r .slots))
       → z ≡ sets l 0 (imageOf r)
   unfolding imageOf
   image-put f a b c =
       let h : List ℕ = headImage (headIn r) in
       let n : List ℕ = spellAll (spell 2) (r .lengths) in
-      let u : length h ≡ 90 = head-layout .wide (headIn r) (f .head) in
-      let v : length (h ++ n) ≡ 602 = length-append h n ∙ ap₂ (λ (i j : ℕ). i + j) u (lengths-layout .wide (r .lengths) (f .lengths)) in
-      let two : y ≡ sets l 0 (h ++ n) = put-next l 0 h n x y 90 90 a u refl b in
-      put-next l 0 (h ++ n) (spellAll slotImage (r .slots)) y z 602 602 two v refl c ∙ ap (sets l 0) (append-assoc h n (spellAll slotImage (r .slots)))
+      let u : length h ≡ 91 = head-layout .wide (headIn r) (f .head) in
+      let v : length (h ++ n) ≡ 603 = length-append h n ∙ ap₂ (λ (i j : ℕ). i + j) u (lengths-layout .wide (r .lengths) (f .lengths)) in
+      let two : y ≡ sets l 0 (h ++ n) = put-next l 0 h n x y 91 91 a u refl b in
+      put-next l 0 (h ++ n) (spellAll slotImage (r .slots)) y z 603 603 two v refl c ∙ ap (sets l 0) (append-assoc h n (spellAll slotImage (r .slots)))

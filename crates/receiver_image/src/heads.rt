@@ -32,7 +32,7 @@ ghost use Rattle.image.specs.Segments.{LengthFits};
 ghost use Rattle.receiver_image.specs.Heads.{termsImage, termsOf, TermsFit, standingImage, timesImage, TimesFit, progressImage, progressOf, ProgressFits, headImage, headOf, HeadFits};
 
 pub fn put_terms(dst: &mut [u8], at: usize, t: Terms)
-    requires { ⌜ at + 22 ≤ length (now dst) ⌝ }
+    requires { ⌜ at + 23 ≤ length (now dst) ⌝ }
     ensures { λ _. ⌜ (now (dst .exit) ≡ sets (now (dst .entry)) at (termsImage t)) × TermsFit t ⌝ }
 {
     let peer = t.peer;
@@ -40,9 +40,9 @@ pub fn put_terms(dst: &mut [u8], at: usize, t: Terms)
     let a = peer_octets(peer);
     octets::put(dst, at, &a);
     let p = protocol_octets(protocol);
-    let b = [p[0], p[1], t.transaction_id, t.version];
+    let b = [p[0], p[1], t.transaction_id, t.version, t.profile];
     octets::put(dst, at + 10, &b);
-    put64(dst, at + 14, t.maximum_message_octets as u64);
+    put64(dst, at + 15, t.maximum_message_octets as u64);
 }
 
 // State, services, end and stated length.
@@ -85,7 +85,7 @@ pub fn put_progress(dst: &mut [u8], at: usize, p: Progress)
 }
 
 pub fn put_head(dst: &mut [u8], h: Head)
-    requires { ⌜ 90 ≤ length (now dst) ⌝ }
+    requires { ⌜ 91 ≤ length (now dst) ⌝ }
     ensures { λ _. ⌜ (now (dst .exit) ≡ sets (now (dst .entry)) 0 (headImage h)) × HeadFits h ⌝ }
 {
     let terms = h.terms;
@@ -94,22 +94,23 @@ pub fn put_head(dst: &mut [u8], h: Head)
     let version = [LAYOUT_VERSION];
     octets::put(dst, 0, &version);
     put_terms(dst, 1, terms);
-    put_progress(dst, 23, progress);
-    put_marks(dst, 58, held);
+    put_progress(dst, 24, progress);
+    put_marks(dst, 59, held);
 }
 
 pub fn read_terms(l: &[u8]) -> Terms
-    requires { ⌜ 22 ≤ length (now l) ⌝ }
+    requires { ⌜ 23 ≤ length (now l) ⌝ }
     ensures { λ r. ⌜ r ≡ termsOf (now (l .entry)) ⌝ }
 {
     let peer = get_peer(l);
     let protocol = read_protocol(&l[10..]);
-    let maximum = number64(l, 14);
+    let maximum = number64(l, 15);
     Terms {
         peer,
         protocol,
         transaction_id: l[12],
         version: l[13],
+        profile: l[14],
         maximum_message_octets: maximum as usize,
     }
 }
@@ -137,12 +138,12 @@ pub fn read_progress(l: &[u8]) -> Progress
 }
 
 pub fn read_head(l: &[u8]) -> Head
-    requires { ⌜ 90 ≤ length (now l) ⌝ }
+    requires { ⌜ 91 ≤ length (now l) ⌝ }
     ensures { λ r. ⌜ r ≡ headOf (now (l .entry)) ⌝ }
 {
     let terms = read_terms(&l[1..]);
-    let progress = read_progress(&l[23..]);
-    let held = get_marks(&l[58..]);
+    let progress = read_progress(&l[24..]);
+    let held = get_marks(&l[59..]);
     Head {
         terms,
         progress,
@@ -152,12 +153,12 @@ pub fn read_head(l: &[u8]) -> Head
 
 // The same, and whether the octets are those of the head.
 pub fn get_head(l: &[u8]) -> HeadRead
-    requires { ⌜ 90 ≤ length (now l) ⌝ }
-    ensures { λ r. ⌜ (r .ok ≡ spells headImage headOf 90 (now (l .entry))) × (r .head ≡ headOf (now (l .entry))) ⌝ }
+    requires { ⌜ 91 ≤ length (now l) ⌝ }
+    ensures { λ r. ⌜ (r .ok ≡ spells headImage headOf 91 (now (l .entry))) × (r .head ≡ headOf (now (l .entry))) ⌝ }
 {
     let head = read_head(l);
-    let mut again = [0u8; 90];
+    let mut again = [0u8; 91];
     put_head(&mut again, head);
-    let ok = octets::same(&again, &l[0..90]);
+    let ok = octets::same(&again, &l[0..91]);
     HeadRead { ok, head }
 }

@@ -1,4 +1,4 @@
-// The layout RECEIVER: a receiver's record in 3,930 octets, put and got with the strict test. Internal to the exports, as the crate image is.
+// The layout RECEIVER: a receiver's record in 3,931 octets, put and got with the strict test. Internal to the exports, as the crate image is.
 use crate::heads::get_head;
 use crate::heads::put_head;
 use crate::slots::get_lengths;
@@ -21,10 +21,10 @@ pub mod heads;
 pub mod parts;
 pub mod slots;
 
-pub const RECEIVER_OCTETS: usize = 3930;
+pub const RECEIVER_OCTETS: usize = 3931;
 
 // The number that a receiver's octets begin with.
-const LAYOUT_VERSION: u8 = 1;
+const LAYOUT_VERSION: u8 = 2;
 
 // All of a receiver but the slots.
 pub struct Head {
@@ -57,7 +57,7 @@ fn both(a: bool, b: bool) -> bool
 
 // A receiver at the front of octets, which then spell it.
 pub fn put_receiver(dst: &mut [u8], r: Receiver)
-    requires { ⌜ 3930 ≤ length (now dst) ⌝ }
+    requires { ⌜ 3931 ≤ length (now dst) ⌝ }
     ensures { λ _. ⌜ (now (dst .exit) ≡ sets (now (dst .entry)) 0 (imageOf r)) × ReceiverFits r ⌝ }
 {
     let terms = r.terms;
@@ -79,7 +79,7 @@ pub fn put_receiver(dst: &mut [u8], r: Receiver)
 
 // The receiver that octets spell, and whether they are the octets of that.
 pub fn get_receiver(l: &[u8]) -> ReceiverRead
-    requires { ⌜ 3930 ≤ length (now l) ⌝ }
+    requires { ⌜ 3931 ≤ length (now l) ⌝ }
     ensures { λ r. ⌜ (r .ok ≡ imageOk (now (l .entry))) × (r .receiver ≡ recordOf (now (l .entry))) ⌝ }
 {
     let read = get_head(l);
@@ -87,8 +87,8 @@ pub fn get_receiver(l: &[u8]) -> ReceiverRead
     let terms = head.terms;
     let progress = head.progress;
     let held = head.held;
-    let lengths = get_lengths(&l[90..]);
-    let behind = get_slots(&l[602..]);
+    let lengths = get_lengths(&l[91..]);
+    let behind = get_slots(&l[603..]);
     let slots = behind.slots;
     ReceiverRead {
         ok: both(read.ok, behind.ok),

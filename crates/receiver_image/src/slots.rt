@@ -22,13 +22,13 @@ ghost use Rattle.image.specs.Many.{spellAll, allPass, AllFit};
 ghost use Rattle.receiver_image.specs.Images.{slotImage, lengthsOf, slotsOf, LengthFits, SlotFits};
 
 // Where they begin.
-const LENGTHS: usize = 90;
+const LENGTHS: usize = 91;
 
-const SLOTS: usize = 602;
+const SLOTS: usize = 603;
 
 pub fn put_lengths(dst: &mut [u8], lengths: [u16; 256])
-    requires { ⌜ 602 ≤ length (now dst) ⌝ }
-    ensures { λ _. ⌜ (now (dst .exit) ≡ sets (now (dst .entry)) 90 (spellAll (spell 2) lengths)) × AllFit LengthFits 256 0 lengths ⌝ }
+    requires { ⌜ 603 ≤ length (now dst) ⌝ }
+    ensures { λ _. ⌜ (now (dst .exit) ≡ sets (now (dst .entry)) 91 (spellAll (spell 2) lengths)) × AllFit LengthFits 256 0 lengths ⌝ }
 {
     let mut i = 0;
     while i < 256 {
@@ -52,8 +52,8 @@ pub fn get_lengths(l: &[u8]) -> [u16; 256]
 }
 
 pub fn put_slots(dst: &mut [u8], slots: [Slot; 256])
-    requires { ⌜ 3930 ≤ length (now dst) ⌝ }
-    ensures { λ _. ⌜ (now (dst .exit) ≡ sets (now (dst .entry)) 602 (spellAll slotImage slots)) × AllFit SlotFits 256 noSlot slots ⌝ }
+    requires { ⌜ 3931 ≤ length (now dst) ⌝ }
+    ensures { λ _. ⌜ (now (dst .exit) ≡ sets (now (dst .entry)) 603 (spellAll slotImage slots)) × AllFit SlotFits 256 noSlot slots ⌝ }
 {
     let mut i = 0;
     while i < 256 {

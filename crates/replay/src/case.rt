@@ -17,7 +17,7 @@ use crate::state::sender_same;
 pub const LONG: usize = 66_000;
 
 // A receiver's record or a sender's, a plan, and whatever a call answers.
-pub const RECORD_OCTETS: usize = 6130;
+pub const RECORD_OCTETS: usize = 6131;
 
 pub const PLAN_OCTETS: usize = 5958;
 

@@ -29,7 +29,7 @@ const LAST_FAILURE: u8 = 2;
 const DATA_LENGTH: usize = 18;
 
 // The first octet of a sender's record.
-const LAYOUT: u8 = 1;
+const LAYOUT: u8 = 2;
 
 // Lengths of inputs; of ops 11 and 36 up to the heads.
 const PLAN_INPUT: usize = 16;

@@ -8,6 +8,7 @@ use crate::planning::make_plan;
 use crate::planning::octets_length;
 use crate::state::OWN;
 use crate::state::is_called;
+use crate::terms::PROFILE_1;
 use crate::terms::terms_at;
 use codec_c::codes::DONE;
 use codec_c::codes::SHORT;
@@ -46,6 +47,7 @@ fn made(record: &mut [u8], input: &[u8], plan: &[u8], message: &[u8]) -> u32 {
         plan,
         message,
         be8(input, VERSION),
+        PROFILE_1,
         OWN,
         be64(input, READING),
     )

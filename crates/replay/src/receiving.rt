@@ -7,6 +7,7 @@ use crate::number::from;
 use crate::number::front;
 use crate::pattern::FILL;
 use crate::pattern::patched;
+use crate::terms::PROFILE_1;
 use crate::terms::terms_at;
 use receiver_c::catkhize_receiver_advance;
 use receiver_c::catkhize_receiver_cancel;
@@ -59,6 +60,7 @@ fn made(record: &mut [u8], input: &[u8]) -> u32 {
         t.octet,
         be8(input, TRANSACTION),
         be8(input, VERSION),
+        PROFILE_1,
         be64(input, MAXIMUM),
         be64(input, MADE_AT),
     )

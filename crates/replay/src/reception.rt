@@ -31,7 +31,7 @@ const MESSAGE_LENGTH: usize = 43;
 const MESSAGE_SUM: usize = 47;
 
 // RECEIVER in an answer: state and status, deadline, stored octets.
-const STATE: [u8; 12] = [23, 2, 0, 2, 41, 9, 2, 9, 33, 8, 11, 4];
+const STATE: [u8; 12] = [24, 2, 0, 2, 42, 9, 2, 9, 34, 8, 11, 4];
 
 // The octets of an answer where the call is done, up to the state, and with it where it is refused.
 const RECEIVED: usize = 52;

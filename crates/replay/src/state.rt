@@ -17,46 +17,46 @@ pub const OWN: u64 = 136;
 
 // SENDER in an answer: state in four octets, deadline, submissions. With a failure by the peer SENDER has the status last, the answer third.
 const STATE: [u8; 20] = [
-    22,
+    23,
     2,
     0,
     2,
-    24,
+    25,
     1,
     2,
     1,
-    25,
+    26,
     1,
     3,
     1,
-    148,
+    149,
     9,
     4,
     9,
-    165,
+    166,
     8,
     13,
     8,
 ];
 
 const PEER_STATE: [u8; 20] = [
-    22,
+    23,
     2,
     0,
     2,
-    24,
+    25,
     1,
     3,
     1,
-    25,
+    26,
     1,
     2,
     1,
-    148,
+    149,
     9,
     4,
     9,
-    165,
+    166,
     8,
     13,
     8,
@@ -65,7 +65,7 @@ const PEER_STATE: [u8; 20] = [
 const PEER_FAILED: u16 = 0x0402;
 
 // STATE in SENDER.
-const SAID: [u8; 4] = [22, 4, 0, 4];
+const SAID: [u8; 4] = [23, 4, 0, 4];
 
 // SUBMISSION: number, index; its ticket and its index in an answer; its segment as PART.
 const SUBMISSION_OCTETS: usize = 48;

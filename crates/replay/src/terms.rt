@@ -10,6 +10,9 @@ pub const PROTOCOL: usize = 10;
 
 const OCTET: usize = 11;
 
+// The original waits as profile 1 does.
+pub const PROFILE_1: u8 = 1;
+
 pub struct Terms {
     pub kind: u8,
     pub width: u8,

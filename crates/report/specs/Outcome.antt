@@ -139,8 +139,8 @@ pub record Tells (es : List Event) (s : Summary) : Type 0 where
   pub cleans : hands (handedOver es) ≡ true → failsLater es ≡ false → hasBadLine es ≡ false → rebuiltBy s ≡ true
 
 -- ---- from octets (docs/EXPORTS.md): RECEPTION has how many entries of the response's map are missing from 42 on and the first of them from 44
--- on, the message's flag at 46 and its number of octets from 47 on; RECEIVER has the state at 23, of which 3 is Failed, and the deadline's flag
--- at 41 and the deadline from 42 on; its first octet is 0 where it was not made
+-- on, the message's flag at 46 and its number of octets from 47 on; RECEIVER has the state at 24, of which 3 is Failed, and the deadline's flag
+-- at 42 and the deadline from 43 on; its first octet is 0 where it was not made
 
 -- the number of w octets at a place; 0 past the end
 abbrev pub numberAt : ℕ → List ℕ → ℕ → ℕ
@@ -156,8 +156,8 @@ abbrev pub handedIn : List ℕ → Handed
 handedIn answer = cond (eqb (getD answer 46 0) 0) handed.Nothing (handed.Octets (numberAt 8 answer 47))
 
 abbrev pub callEvent : List ℕ → List ℕ → Event
-callEvent answer receiver = event.Call (handedIn answer) (eqb (getD receiver 23 0) 3)
+callEvent answer receiver = event.Call (handedIn answer) (eqb (getD receiver 24 0) 3)
 
 -- whether a reading is past the deadline; at the deadline it is not
 abbrev pub pastDeadline : ℕ → List ℕ → Bool
-pastDeadline reading receiver = not (eqb (getD receiver 0 0) 0) && (not (eqb (getD receiver 41 0) 0) && ltb (numberAt 8 receiver 42) reading)
+pastDeadline reading receiver = not (eqb (getD receiver 0 0) 0) && (not (eqb (getD receiver 42 0) 0) && ltb (numberAt 8 receiver 43) reading)

@@ -38,8 +38,8 @@ fn refusal_name(n: u32) -> usize {
         28 => say::REFUSALS + 15,
         30..=38 => say::REFUSALS + 16 + (n - 30) as usize,
         40..=49 => say::REFUSALS + 25 + (n - 40) as usize,
-        60..=63 => say::REFUSALS + 35 + (n - 60) as usize,
-        256..=258 => say::REFUSALS + 39 + (n - 256) as usize,
+        60..=64 => say::REFUSALS + 35 + (n - 60) as usize,
+        256..=258 => say::REFUSALS + 40 + (n - 256) as usize,
         _ => say::NOTHING,
     }
 }

@@ -25,20 +25,21 @@ fn keyword_number(k: Keyword) -> usize {
         Keyword::Other => say::FORMS + 5,
         Keyword::Transaction => say::FORMS + 6,
         Keyword::Version => say::FORMS + 7,
-        Keyword::Maximum => say::FORMS + 8,
-        Keyword::At => say::FORMS + 9,
-        Keyword::Advance => say::FORMS + 10,
-        Keyword::Cancel => say::FORMS + 11,
+        Keyword::Profile => say::FORMS + 8,
+        Keyword::Maximum => say::FORMS + 9,
+        Keyword::At => say::FORMS + 10,
+        Keyword::Advance => say::FORMS + 11,
+        Keyword::Cancel => say::FORMS + 12,
     }
 }
 
 fn form_number(form: Form) -> usize {
     match form {
         Form::Word(k) => keyword_number(k),
-        Form::Small => say::FORMS + 12,
-        Form::Number => say::FORMS + 13,
-        Form::Protocol => say::FORMS + 14,
-        Form::Octet => say::FORMS + 15,
+        Form::Small => say::FORMS + 13,
+        Form::Number => say::FORMS + 14,
+        Form::Protocol => say::FORMS + 15,
+        Form::Octet => say::FORMS + 16,
     }
 }
 

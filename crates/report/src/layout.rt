@@ -52,8 +52,8 @@ pub const MESSAGE: usize = 46;
 
 pub const RECEPTION_OCTETS: usize = 55;
 
-// RECEIVER: peer kind, width and value; protocol and its octet; transaction; version; maximum; state, with a status; end, stated length and
-// deadline, each with its flag; stored octets; last reading; held marks; data lengths.
+// RECEIVER: peer kind, width and value; protocol and its octet; transaction; version; profile; maximum; state, with a status; end, stated
+// length and deadline, each with its flag; stored octets; last reading; held marks; data lengths.
 pub const PEER_KIND: usize = 1;
 
 pub const PEER_WIDTH: usize = 2;
@@ -68,25 +68,27 @@ pub const RECEIVER_TRANSACTION: usize = 13;
 
 pub const VERSION: usize = 14;
 
-pub const MAXIMUM: usize = 15;
+pub const PROFILE: usize = 15;
 
-pub const STATE: usize = 23;
+pub const MAXIMUM: usize = 16;
 
-pub const END: usize = 28;
+pub const STATE: usize = 24;
 
-pub const STATED: usize = 30;
+pub const END: usize = 29;
 
-pub const STORED: usize = 33;
+pub const STATED: usize = 31;
 
-pub const DEADLINE: usize = 41;
+pub const STORED: usize = 34;
 
-pub const LAST_READING: usize = 50;
+pub const DEADLINE: usize = 42;
 
-pub const HELD: usize = 58;
+pub const LAST_READING: usize = 51;
 
-pub const LENGTHS: usize = 90;
+pub const HELD: usize = 59;
 
-pub const RECEIVER_OCTETS: usize = 3930;
+pub const LENGTHS: usize = 91;
+
+pub const RECEIVER_OCTETS: usize = 3931;
 
 // The state after a hand-over, and those that take no segments, of which FAILED has a status.
 pub const COMPLETE: u8 = 2;

@@ -133,17 +133,17 @@ pub const OCTET_FAULTS: usize = 121;
 
 pub const FORMS: usize = 124;
 
-pub const HEADING: usize = 140;
+pub const HEADING: usize = 141;
 
-pub const STOPPED: usize = 141;
+pub const STOPPED: usize = 142;
 
-pub const NOT_OPENED: usize = 142;
+pub const NOT_OPENED: usize = 143;
 
-pub const NOT_WIPED: usize = 143;
+pub const NOT_WIPED: usize = 144;
 
-pub const FIELDS: usize = 144;
+pub const FIELDS: usize = 145;
 
-pub const REFUSALS: usize = 151;
+pub const REFUSALS: usize = 152;
 
 // Past the last of them: no text.
 pub const NOTHING: usize = 255;
@@ -229,7 +229,7 @@ pub fn say(n: usize, a: u64, b: u64) {
     say_text(
         word_at(
             b"line_%_at_% ,_%_ms_after_the_last ,_%_ms_before_the_last :_ bench:_advance_at_%,_before_line_% line_%_refused:_ \
-            section_%,_from_line_% receiver_of _peer_%_% _% ,_transaction_% ,_version_% ,_maximum_% :_made advance cancel \
+            section_%,_from_line_% receiver_of _peer_%_% _% ,_transaction_% ,_version_%,_profile_% ,_maximum_% :_made advance cancel \
             segment_of_%_octet~ Begin_% Continue_% End_% ,_%_octet~ \
             ,_window_Prohibited ,_window_Every4 ,_window_Every8 ,_window_Every16 ,_window_Last ,_window_Exceptions ,_states_% \
             ,_new ,_repeat :_refused_% :_refused_%/% _ :_taken :_fails_the_reception,_status ,_%_octet~_so_far ,_%_of_%_octets \
@@ -255,7 +255,7 @@ pub fn say(n: usize, a: u64, b: u64) {
             character_%:_no_hexadecimal_digit character_%:_an_octet_ends_after_one_digit \
             character_%:_more_octets_than_there_is_room_for \
             the_word_receiver the_word_peer the_word_protocol the_word_segmented the_word_carrier the_word_other \
-            the_word_transaction the_word_version the_word_maximum the_word_at the_word_advance the_word_cancel \
+            the_word_transaction the_word_version the_word_profile the_word_maximum the_word_at the_word_advance the_word_cancel \
             a_number_from_0_to_255 a_number_from_0_to_18446744073709551615 segmented,_carrier_or_other \
             an_octet_of_two_hexadecimal_digits ==_ the_capture_cannot_be_read_on not_rebuilt,_the_capture_cannot_be_opened \
             not_rebuilt,_the_store_was_not_wiped_after_section_% \
@@ -265,7 +265,7 @@ pub fn say(n: usize, a: u64, b: u64) {
             HeaderCapacity SegmentCount FrozenPlan JoinedLength ExceptionsWindow OtherPattern OrderNumber Identity Service \
             TransactionId ClockRegression TimeOverflow UnparsedSegment BeginRequired TimerDue Closed Plan CounterOverflow \
             StaleSubmission NotSubmitted ReceiptTime Peer ResponsesProhibited UnparsedResponse UnsubmittedAcknowledgment \
-            ContradictoryReceipt Store Output ImpossibleState Tickets BufferTooShort BufferSpellsNone NumberNamesNone",
+            ContradictoryReceipt Store Output ImpossibleState Tickets Profile BufferTooShort BufferSpellsNone NumberNamesNone",
             n,
         ),
         a,

@@ -1,5 +1,6 @@
 -- Document 02, 2026-09: 'senders finish them', of frozen plans under Exceptions. A sender of any plan under it, all of whose segments were queued and
--- accepted at try_new's reading, completes an interval after it, also one whose record has a planned plan. Assumes nothing.
+-- accepted at try_new's reading, completes an interval after it, also one whose record has a planned plan; for any interval, then of ours at its own. A
+-- profile that is known is asked for, as 62 does. Assumes nothing.
 use Prim.Native.Nat.{ℕ, zero, suc, _+_, _-_, _^_, _≤_, _<_}
 use mathlib.Core.Path.{_≡_, refl, sym, ap, _∙_, subst}
 use mathlib.Core.List.{List, [], _∷_}
@@ -17,6 +18,7 @@ use Rattle.words.specs.Search.{allBelow-all, lowest-at, lowest-none}
 use Rattle.words.specs.declared.Found.the-variants as found
 use Rattle.words.specs.declared.Words.{Words}
 use Rattle.link.specs.Peer.{identityRefused, protocolServed}
+use Rattle.link.specs.Profile.{knownProfile, senderInterval}
 use Rattle.link.specs.declared.HigherLayerProtocol.the-variants.{Segmented}
 use Rattle.tsar.specs.Rows.{Refusal, refusal, refusal-pass}
 use Rattle.tsar.specs.Kinds.{prohibited}
@@ -35,13 +37,15 @@ use Rattle.sender.specs.declared.Progress.{Progress}
 use Rattle.sender.specs.declared.Sender.{Sender}
 use Rattle.sender.specs.declared.Completion.the-variants.{ExceptionIntervalElapsed}
 use Rattle.sender.specs.declared.SenderState.the-variants.{Prepared, AwaitingAccept, AwaitingResponse, Complete}
-use Rattle.sender.specs.Record.{awaitsResponse, due, needs, hasPending, nextPending, planCount, planWindow, outline, outlineOf, impossible}
-use Rattle.sender.specs.Steps.{advanced, isLast, setsDeadline, countedAs, acceptedNext, finish}
+use Rattle.sender.specs.Record.{awaitsResponse, due, needs, hasPending, nextPending, planCount, planWindow, outline, outlineOf, intervalOf, impossible}
+use Rattle.sender.specs.Steps.{advanced, setsDeadline, countedAs, acceptedNext}
 use Rattle.sender.specs.Calls.{Answer, answered, Step, Turn, refuses, left, orTickets, onRefusal, advancedTo, submittedRows, countRows, counting, submitting, submittedIn, submittedOf, wordRows, afterAdvance, acceptedIn, acceptedOf, advanceIn, advanceOf}
 use Rattle.sender.specs.TryNew.{firstSender, tryNewOf}
 use Rattle.sender.specs.Pending.{pending-next}
-use Rattle.sender.specs.Reached.{Standing, not-impossible, response-awaited}
-use Rattle.sender.specs.CallList.{Call, advance, submitted, accepted, afterwards, answers, ReachedSender, first-reached, list-keeps}
+use Rattle.sender.specs.Reached.{Standing, response-awaited}
+use Rattle.sender.specs.CallList.{Call, advance, submitted, accepted, stepOf, afterwards, answers, ReachedSender, standing-possible, first-reached, list-keeps}
+use Rattle.sender.specs.Own.{ours, one-interval}
+use Rattle.sender.proofs.Waiting.{waits-some, asked-sets}
 use Rattle.sender.proofs.Retired.{frozenPlan, frozen-made}
 
 -- ---- at the deadline
@@ -53,17 +57,17 @@ none-pending n s w e = ap not (allBelow-all n (λ i. not (needs s w i)) (λ i h.
     go i h true q = absurd (pending-next n s w i h q e)
     go i h false q = refl
 
--- of any sender that calls reach: in AwaitingResponse an advance to the deadline or past it completes it, unless 33 comes first; its ticket is one of
+-- of any sender of a known profile that calls reach: in AwaitingResponse an advance to the deadline or past it completes it, unless 33 comes first; its ticket is one of
 -- 64 bits
-pub elapsed : (interval : ℕ) (s : Sender) (k : ℕ) → ReachedSender interval s → planWindow (s .plan) ≡ window.Exceptions → s .progress .state ≡ AwaitingResponse
+pub elapsed : (interval : ℕ) (s : Sender) (k : ℕ) → ReachedSender interval s → knownProfile (s .terms .profile) ≡ true → planWindow (s .plan) ≡ window.Exceptions → s .progress .state ≡ AwaitingResponse
     → s .progress .«last_monotonic_ms» ≤ k → due (s .progress .«deadline_monotonic_ms») k ≡ true → s .progress .«last_ticket» ≤ 2 ^ 64 - 1
     → advanceOf s k .answer ≡ answered (Complete ExceptionIntervalElapsed)
 unfolding advanceOf advanceIn advanced
-elapsed interval s k r e a l d t =
+elapsed interval s k r c e a l d t =
     let o = outline s in
     let p = s .progress in
     let none = response-awaited (o .count) (o .«acknowledgment_window») p (r .standing) (ap awaitsResponse a) .1 in
-    simp (not-impossible (o .count) (o .«acknowledgment_window») p (r .standing), le-ltb k (p .«last_monotonic_ms») l, a, d, e, none-pending (o .count) (p .submitted) (p .retry) none, le-ltb (2 ^ 64 - 1) (p .«last_ticket») t)
+    simp (standing-possible o p (r .standing) c, le-ltb k (p .«last_monotonic_ms») l, a, d, e, none-pending (o .count) (p .submitted) (p .retry) none, le-ltb (2 ^ 64 - 1) (p .«last_ticket») t)
 
 -- ---- the marks once i segments were submitted
 
@@ -125,7 +129,7 @@ next-none n m = lowest-none (needs (submittedTo n) (retriedTo n)) n (λ j h. nee
 
 -- ---- one segment
 
-module _ (interval : ℕ) (positive : 0 < interval) (own : ℕ) (o : Outline) (k : ℕ) (low : k + interval < 2 ^ 64) (asked : prohibited (o .«acknowledgment_window») ≡ false) (least : 2 ≤ o .count) (most : o .count ≤ 256) where
+module _ (interval : ℕ) (positive : 0 < interval) (own : ℕ) (o : Outline) (known : knownProfile (o .profile) ≡ true) (k : ℕ) (low : k + interval < 2 ^ 64) (asked : prohibited (o .«acknowledgment_window») ≡ false) (least : 2 ≤ o .count) (most : o .count ≤ 256) where
   abbrev n : ℕ
   n = o .count
 
@@ -217,7 +221,7 @@ module _ (interval : ℕ) (positive : 0 < interval) (own : ℕ) (o : Outline) (k
   owned i = simp (eq-eqb own own refl, eq-eqb i i refl)
 
   sets : (i : ℕ) → setsDeadline n w (offers i) ≡ true
-  sets i = ap (λ (b : Bool). not (isLast n (offers i) && b)) asked ∙ ap not (and-none (isLast n (offers i)))
+  sets i = asked-sets n w (offers i) asked
 
   -- queued
   counts : (i : ℕ) → i < n → counting interval n w (offers i) k k ≡ left (queued i)
@@ -231,7 +235,7 @@ module _ (interval : ℕ) (positive : 0 < interval) (own : ℕ) (o : Outline) (k
   unfolding submittedIn
   submits i l =
       ap (λ (r : Option Refusal). orTickets (offers i) (onRefusal r (offers i) (submitting interval o (offers i) k k)))
-      (refusal-pass (submittedRows own o (offers i) own i k k) (not-impossible n w (offers i) (offers-stands i l), (le-ltb k k (omega arith), (refl, (ap not (owned i), (ap (λ (b : Bool). b || b) (le-ltb k k (omega arith)), tt))))))
+      (refusal-pass (submittedRows own o (offers i) own i k k) (standing-possible o (offers i) (offers-stands i l) known, (le-ltb k k (omega arith), (refl, (ap not (owned i), (ap (λ (b : Bool). b || b) (le-ltb k k (omega arith)), tt))))))
       ∙ ap (λ (b : Bool). orTickets (offers i) (cond (b && due (runsFrom i) k) (refuses (44, 0) (advancedTo o (offers i) k)) (counting interval n w (offers i) k k))) asked
       ∙ ap (orTickets (offers i)) (counts i l)
       ∙ ap (λ (b : Bool). cond b (refuses (63, 0) (offers i)) (left (queued i))) (in-64 i (omega arith))
@@ -241,7 +245,7 @@ module _ (interval : ℕ) (positive : 0 < interval) (own : ℕ) (o : Outline) (k
   unfolding acceptedIn
   word i l next e t =
       ap (λ (r : Option Refusal). orTickets (queued i) (onRefusal r (queued i) (afterAdvance own own i (advancedTo o (queued i) k) (acceptedNext n w (advancedTo o (queued i) k) k))))
-      (refusal-pass (wordRows own o (queued i) own i k) (not-impossible n w (queued i) (queued-stands i l), (le-ltb k k (omega arith), (refl, (ap not (owned i), tt)))))
+      (refusal-pass (wordRows own o (queued i) own i k) (standing-possible o (queued i) (queued-stands i l) known, (le-ltb k k (omega arith), (refl, (ap not (owned i), tt)))))
       ∙ ap (λ (q : Progress). orTickets (queued i) (afterAdvance own own i q (acceptedNext n w q k))) (stays i)
       ∙ ap (λ (b : Bool). orTickets (queued i) (cond b (left (acceptedNext n w (queued i) k)) (refuses (42, 0) (queued i)))) (owned i)
       ∙ ap (λ (q : Progress). orTickets (queued i) (left q)) e
@@ -263,48 +267,48 @@ unfoldable pub sends : ℕ → ℕ → ℕ → ℕ → List Call
 sends own k i zero = []
 sends own k i (suc m) = submitted own i k k ∷ accepted own i k ∷ sends own k (suc i) m
 
-module _ (interval : ℕ) (positive : 0 < interval) (t : Terms) (p : Plan) (k : ℕ) (low : k + interval < 2 ^ 64) (asked : prohibited (planWindow p) ≡ false) (least : 2 ≤ planCount p) (most : planCount p ≤ 256) where
+module _ (interval : ℕ) (positive : 0 < interval) (t : Terms) (p : Plan) (known : knownProfile (t .profile) ≡ true) (k : ℕ) (low : k + interval < 2 ^ 64) (asked : prohibited (planWindow p) ≡ false) (least : 2 ≤ planCount p) (most : planCount p ≤ 256) where
   abbrev holding : Progress → Sender
   holding q = record { terms = t; progress = q; plan = p }
 
   abbrev offering′ : ℕ → Progress
-  offering′ = offers interval positive (t .number) (outlineOf p) k low asked least most
+  offering′ = offers interval positive (t .number) (outlineOf (t .profile) p) known k low asked least most
 
   abbrev queued′ : ℕ → Progress
-  queued′ = queued interval positive (t .number) (outlineOf p) k low asked least most
+  queued′ = queued interval positive (t .number) (outlineOf (t .profile) p) known k low asked least most
 
   abbrev waiting′ : ℕ → Progress
-  waiting′ = waits interval positive (t .number) (outlineOf p) k low asked least most
+  waiting′ = waits interval positive (t .number) (outlineOf (t .profile) p) known k low asked least most
 
   submits-it : (i : ℕ) → i < planCount p → submittedOf interval (holding (offering′ i)) (t .number) i k k .sender ≡ holding (queued′ i)
   unfolding submittedOf
-  submits-it i l = ap (λ (u : Turn). holding (u .progress)) (submits interval positive (t .number) (outlineOf p) k low asked least most i l)
+  submits-it i l = ap (λ (u : Turn). holding (u .progress)) (submits interval positive (t .number) (outlineOf (t .profile) p) known k low asked least most i l)
 
   accepts-it : (i : ℕ) → suc i < planCount p → acceptedOf (holding (queued′ i)) (t .number) i k .sender ≡ holding (offering′ (suc i))
   unfolding acceptedOf
-  accepts-it i l = ap (λ (u : Turn). holding (u .progress)) (accepts interval positive (t .number) (outlineOf p) k low asked least most i l)
+  accepts-it i l = ap (λ (u : Turn). holding (u .progress)) (accepts interval positive (t .number) (outlineOf (t .profile) p) known k low asked least most i l)
 
   accepts-end : (i : ℕ) → suc i ≡ planCount p → acceptedOf (holding (queued′ i)) (t .number) i k .sender ≡ holding (waiting′ i)
   unfolding acceptedOf
-  accepts-end i e = ap (λ (u : Turn). holding (u .progress)) (accepts-last interval positive (t .number) (outlineOf p) k low asked least most i e)
+  accepts-end i e = ap (λ (u : Turn). holding (u .progress)) (accepts-last interval positive (t .number) (outlineOf (t .profile) p) known k low asked least most i e)
 
-  sends-all : (m i : ℕ) → i + suc m ≡ planCount p → afterwards interval (holding (offering′ i)) (sends (t .number) k i (suc m)) ≡ holding (waiting′ (i + m))
+  sends-all : (m i : ℕ) → i + suc m ≡ planCount p → afterwards (stepOf interval) (holding (offering′ i)) (sends (t .number) k i (suc m)) ≡ holding (waiting′ (i + m))
   unfolding sends
   sends-all zero i e =
       ap (λ (s : Sender). acceptedOf s (t .number) i k .sender) (submits-it i (omega arith))
       ∙ accepts-end i (omega arith)
       ∙ ap (λ (j : ℕ). holding (waiting′ j)) (omega arith)
   sends-all (suc m) i e =
-      ap (λ (s : Sender). afterwards interval (acceptedOf s (t .number) i k .sender) (sends (t .number) k (suc i) (suc m))) (submits-it i (omega arith))
-      ∙ ap (λ (s : Sender). afterwards interval s (sends (t .number) k (suc i) (suc m))) (accepts-it i (omega arith))
+      ap (λ (s : Sender). afterwards (stepOf interval) (acceptedOf s (t .number) i k .sender) (sends (t .number) k (suc i) (suc m))) (submits-it i (omega arith))
+      ∙ ap (λ (s : Sender). afterwards (stepOf interval) s (sends (t .number) k (suc i) (suc m))) (accepts-it i (omega arith))
       ∙ sends-all m (suc i) (omega arith)
       ∙ ap (λ (j : ℕ). holding (waiting′ j)) (omega arith)
 
   -- once each segment was queued and accepted, the sender awaits a response
-  all-sent : afterwards interval (firstSender t p k) (sends (t .number) k 0 (planCount p)) ≡ holding (waiting′ (planCount p - 1))
+  all-sent : afterwards (stepOf interval) (firstSender t p k) (sends (t .number) k 0 (planCount p)) ≡ holding (waiting′ (planCount p - 1))
   unfolding submittedTo retriedTo countedTo
   all-sent =
-      ap (λ (m : ℕ). afterwards interval (firstSender t p k) (sends (t .number) k 0 m)) (let z : planCount p ≡ suc (planCount p - 1) = omega arith in z)
+      ap (λ (m : ℕ). afterwards (stepOf interval) (firstSender t p k) (sends (t .number) k 0 m)) (let z : planCount p ≡ suc (planCount p - 1) = omega arith in z)
       ∙ sends-all (planCount p - 1) 0 (omega arith)
       ∙ ap (λ (j : ℕ). holding (waiting′ j)) (omega arith)
 
@@ -315,12 +319,12 @@ Finishes interval k s =
     × (s .progress .«deadline_monotonic_ms» ≡ deadline.At (k + interval))
     × (advanceOf s (k + interval) .answer ≡ answered (Complete ExceptionIntervalElapsed))
 
--- so does a sender of any plan of 2 to 256 segments, planned ones too, once each was queued and accepted at k
-pub exceptions-complete : (interval : ℕ) → 0 < interval → (t : Terms) (p : Plan) (k : ℕ) → k + interval < 2 ^ 64 → planWindow p ≡ window.Exceptions → 2 ≤ planCount p → planCount p ≤ 256
-    → Finishes interval k (afterwards interval (firstSender t p k) (sends (t .number) k 0 (planCount p)))
-exceptions-complete interval positive t p k low e least most =
-    let s = afterwards interval (firstSender t p k) (sends (t .number) k 0 (planCount p)) in
-    let is = all-sent interval positive t p k low (ap prohibited e) least most in
+-- so does a sender of any plan of 2 to 256 segments, planned ones too, and of a known profile, once each was queued and accepted at k
+pub exceptions-complete : (interval : ℕ) → 0 < interval → (t : Terms) (p : Plan) → knownProfile (t .profile) ≡ true → (k : ℕ) → k + interval < 2 ^ 64 → planWindow p ≡ window.Exceptions → 2 ≤ planCount p → planCount p ≤ 256
+    → Finishes interval k (afterwards (stepOf interval) (firstSender t p k) (sends (t .number) k 0 (planCount p)))
+exceptions-complete interval positive t p known k low e least most =
+    let s = afterwards (stepOf interval) (firstSender t p k) (sends (t .number) k 0 (planCount p)) in
+    let is = all-sent interval positive t p known k low (ap prohibited e) least most in
     let awaits : s .progress .state ≡ AwaitingResponse = ap (λ (x : Sender). x .progress .state) is in
     let runs : s .progress .«deadline_monotonic_ms» ≡ deadline.At (k + interval) = ap (λ (x : Sender). x .progress .«deadline_monotonic_ms») is in
     let read : s .progress .«last_monotonic_ms» ≡ k = ap (λ (x : Sender). x .progress .«last_monotonic_ms») is in
@@ -328,6 +332,7 @@ exceptions-complete interval positive t p k low e least most =
       awaits,
       runs,
       elapsed interval s (k + interval) (list-keeps interval (firstSender t p k) (sends (t .number) k 0 (planCount p)) (first-reached interval t p k least most))
+          (ap (λ (x : Sender). knownProfile (x .terms .profile)) is ∙ known)
           (ap (λ (x : Sender). planWindow (x .plan)) is ∙ e)
           awaits
           (omega arith)
@@ -338,21 +343,34 @@ exceptions-complete interval positive t p k low e least most =
 -- ---- so every frozen plan under Exceptions that the check accepts is finished by the sender that try_new makes of it
 
 pub frozen-finished : (q : Proposal) → length (q .heads) ≡ 256 → frozenRefusal q ≡ none → frozenOf q .«acknowledgment_window» ≡ window.Exceptions
-    → (t : Terms) (k : ℕ) → identityRefused (t .peer) ≡ false → protocolServed (t .protocol) ≡ true → 1 ≤ t .version
+    → (t : Terms) (k : ℕ) → identityRefused (t .peer) ≡ false → protocolServed (t .protocol) ≡ true → knownProfile (t .profile) ≡ true → 1 ≤ t .version
     → (interval : ℕ) → 0 < interval → k + interval < 2 ^ 64
-    → Finishes interval k (afterwards interval (tryNewOf t (frozenPlan q) (q .message) k .sender) (sends (t .number) k 0 (q .count)))
-frozen-finished q wide ok asks t k i s v interval positive low =
+    → Finishes interval k (afterwards (stepOf interval) (tryNewOf t (frozenPlan q) (q .message) k .sender) (sends (t .number) k 0 (q .count)))
+frozen-finished q wide ok asks t k i s known v interval positive low =
     let c = accepted-iff q .0 ok .cutting in
-    subst (λ (st : Step). Finishes interval k (afterwards interval (st .sender) (sends (t .number) k 0 (q .count)))) (sym (frozen-made q wide ok t k i s v))
-    (exceptions-complete interval positive t (frozenPlan q) k low asks (c .at-least) (c .at-most))
+    subst (λ (st : Step). Finishes interval k (afterwards (stepOf interval) (st .sender) (sends (t .number) k 0 (q .count)))) (sym (frozen-made q wide ok t k i s known v))
+    (exceptions-complete interval positive t (frozenPlan q) known k low asks (c .at-least) (c .at-most))
 
--- ---- the example, sent to its end: each segment is submitted and accepted at reading 0, and the sender completes 330,000 ms later
+-- by our sender, its own interval after k
+pub own-frozen-finished : (q : Proposal) → length (q .heads) ≡ 256 → frozenRefusal q ≡ none → frozenOf q .«acknowledgment_window» ≡ window.Exceptions
+    → (t : Terms) (k : ℕ) → identityRefused (t .peer) ≡ false → protocolServed (t .protocol) ≡ true → knownProfile (t .profile) ≡ true → 1 ≤ t .version
+    → k + senderInterval (t .profile) < 2 ^ 64
+    → Finishes (senderInterval (t .profile)) k (afterwards ours (tryNewOf t (frozenPlan q) (q .message) k .sender) (sends (t .number) k 0 (q .count)))
+own-frozen-finished q wide ok asks t k i s known v low =
+    let interval = senderInterval (t .profile) in
+    let made = ap (λ (st : Step). intervalOf (st .sender)) (frozen-made q wide ok t k i s known v) in
+    subst (λ (z : Sender). Finishes interval k z) (sym (one-interval interval (tryNewOf t (frozenPlan q) (q .message) k .sender) (sends (t .number) k 0 (q .count)) made))
+    (frozen-finished q wide ok asks t k i s known v interval (waits-some (t .profile)) low)
 
-abbrev exampleTerms : Terms
-exampleTerms = record { peer = record { kind = 1; width = 34; value = 5 }; protocol = Segmented 0; version = 1; number = 0 }
+-- ---- the example, sent to its end by ours: each segment is submitted and accepted at reading 0, and the sender completes 330,000 ms later where it is
+-- of profile 1, and 150,000 ms later where it is of profile 2
 
-abbrev exampleCalls : List Call
-exampleCalls = submitted 0 0 0 0 ∷ accepted 0 0 0 ∷ submitted 0 1 0 0 ∷ accepted 0 1 0 ∷ advance 329999 ∷ advance 330000 ∷ []
+abbrev exampleTerms : ℕ → Terms
+exampleTerms profile = record { peer = record { kind = 1; width = 34; value = 5 }; protocol = Segmented 0; version = 1; profile = profile; number = 0 }
+
+-- with two readings behind
+abbrev exampleCalls : ℕ → ℕ → List Call
+exampleCalls early late = submitted 0 0 0 0 ∷ accepted 0 0 0 ∷ submitted 0 1 0 0 ∷ accepted 0 1 0 ∷ advance early ∷ advance late ∷ []
 
 abbrev exampleAnswers : List Answer
 exampleAnswers =
@@ -364,11 +382,24 @@ exampleAnswers =
     ∷ answered (Complete ExceptionIntervalElapsed)
     ∷ []
 
-first-finished : answers 330000 (firstSender exampleTerms (frozenPlan exceptionsTrain) 0) exampleCalls ≡ exampleAnswers
-unfolding submittedOf submittedIn acceptedOf acceptedIn advanceOf advanceIn advanced impossible allBelow lowestOf marked wordsOf sumBelow
+abbrev exampleSender : ℕ → Sender
+exampleSender profile = tryNewOf (exampleTerms profile) (frozenPlan exceptionsTrain) (exceptionsTrain .message) 0 .sender
+
+first-finished : answers ours (firstSender (exampleTerms 1) (frozenPlan exceptionsTrain) 0) (exampleCalls 329999 330000) ≡ exampleAnswers
+unfolding submittedOf submittedIn acceptedOf acceptedIn advanceOf advanceIn advanced impossible allBelow lowestOf marked wordsOf sumBelow knownProfile senderInterval
 first-finished = refl
 
-pub exceptions-finished : answers 330000 (tryNewOf exampleTerms (frozenPlan exceptionsTrain) (exceptionsTrain .message) 0 .sender) exampleCalls ≡ exampleAnswers
-exceptions-finished =
-    ap (λ (st : Step). answers 330000 (st .sender) exampleCalls) (frozen-made exceptionsTrain refl exceptions-accepted exampleTerms 0 refl refl (lit≤ tt))
-    ∙ first-finished
+first-finished-2 : answers ours (firstSender (exampleTerms 2) (frozenPlan exceptionsTrain) 0) (exampleCalls 149999 150000) ≡ exampleAnswers
+unfolding submittedOf submittedIn acceptedOf acceptedIn advanceOf advanceIn advanced impossible allBelow lowestOf marked wordsOf sumBelow knownProfile senderInterval
+first-finished-2 = refl
+
+example-made : (profile : ℕ) → knownProfile profile ≡ true → exampleSender profile ≡ firstSender (exampleTerms profile) (frozenPlan exceptionsTrain) 0
+example-made profile known = ap (λ (st : Step). st .sender) (frozen-made exceptionsTrain refl exceptions-accepted (exampleTerms profile) 0 refl refl known (lit≤ tt))
+
+pub exceptions-finished : answers ours (exampleSender 1) (exampleCalls 329999 330000) ≡ exampleAnswers
+unfolding knownProfile
+exceptions-finished = ap (λ (s : Sender). answers ours s (exampleCalls 329999 330000)) (example-made 1 refl) ∙ first-finished
+
+pub exceptions-finished-2 : answers ours (exampleSender 2) (exampleCalls 149999 150000) ≡ exampleAnswers
+unfolding knownProfile
+exceptions-finished-2 = ap (λ (s : Sender). answers ours s (exampleCalls 149999 150000)) (example-made 2 refl) ∙ first-finished-2

@@ -5,5 +5,8 @@ pub mod Stepping
 pub mod Impossible
 pub mod Turning
 pub mod Given
+pub mod Profiles
+pub mod Waiting
+pub mod Deadlines
 pub mod Retired
 pub mod Finished

@@ -8,6 +8,7 @@ use mathlib.Core.Option.{Option, none}
 use lib.ListN.{length}
 use borrow.Author.Tests.{le-ltb}
 use Rattle.link.specs.Peer.{identityRefused, protocolServed}
+use Rattle.link.specs.Profile.{knownProfile}
 use Rattle.tsar.specs.Rows.{Refusal, refusal-pass}
 use Rattle.tsar.specs.declared.AcknowledgmentWindow.the-variants as window
 use Rattle.segmentation.specs.Planned.{full, even}
@@ -35,11 +36,11 @@ planned-exceptions p n e = go (isPlanned p n) refl
     go true q = absurd (none-gives p n e (planned-iff p n .0 q))
     go false q = refl
 
--- try_new refuses it with 40 where neither 30 nor 31 comes before, for any message, at any reading
-pub exceptions-40 : (t : Terms) (q : SegmentedMessage) (f : FrozenMessage) (message : List ℕ) (k : ℕ) → q .«acknowledgment_window» ≡ window.Exceptions → identityRefused (t .peer) ≡ false → protocolServed (t .protocol) ≡ true
+-- try_new refuses it with 40 where none of 30, 31 and 64 comes before, for any message, at any reading
+pub exceptions-40 : (t : Terms) (q : SegmentedMessage) (f : FrozenMessage) (message : List ℕ) (k : ℕ) → q .«acknowledgment_window» ≡ window.Exceptions → identityRefused (t .peer) ≡ false → protocolServed (t .protocol) ≡ true → knownProfile (t .profile) ≡ true
     → tryNewOf t (record { form = form.Planned q; frozen = f }) message k .answer ≡ refused (40, 0)
 unfolding tryNewOf isGiven
-exceptions-40 t q f message k e i s = simp (i, s, planned-exceptions q (length message) e)
+exceptions-40 t q f message k e i s c = simp (i, s, c, planned-exceptions q (length message) e)
 
 -- ---- frozen: a sender is made of what the check accepts, whatever the window
 
@@ -51,9 +52,9 @@ unfolding isGiven
 frozen-passes q wide ok = check-given q wide ok
 
 pub frozen-made : (q : Proposal) → length (q .heads) ≡ 256 → frozenRefusal q ≡ none
-    → (t : Terms) (k : ℕ) → identityRefused (t .peer) ≡ false → protocolServed (t .protocol) ≡ true → 1 ≤ t .version
+    → (t : Terms) (k : ℕ) → identityRefused (t .peer) ≡ false → protocolServed (t .protocol) ≡ true → knownProfile (t .profile) ≡ true → 1 ≤ t .version
     → tryNewOf t (frozenPlan q) (q .message) k ≡ placed (firstSender t (frozenPlan q) k) (left (firstOffer k))
 unfolding tryNewOf
-frozen-made q wide ok t k i s v =
+frozen-made q wide ok t k i s c v =
     ap (λ (r : Option Refusal). madeAfter r t (frozenPlan q) k)
-    (refusal-pass (tryNewRows t (frozenPlan q) (q .message)) (i, (ap not s, (ap not (frozen-passes q wide ok), (le-ltb (t .version) 1 v, tt)))))
+    (refusal-pass (tryNewRows t (frozenPlan q) (q .message)) (i, (ap not s, (ap not c, (ap not (frozen-passes q wide ok), (le-ltb (t .version) 1 v, tt))))))

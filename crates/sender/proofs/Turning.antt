@@ -3,10 +3,11 @@
 use Prim.Native.Nat.{ℕ, _≤_}
 use mathlib.Core.Path.{_≡_, sym, ap, _∙_}
 use mathlib.Core.List.{List, _++_}
-use mathlib.Core.Bool.{Bool, false}
+use mathlib.Core.Bool.{Bool, false, not}
 use mathlib.Core.Option.{Option, none, some}
 use borrow.Author.Tests.{ltb-false}
 use lib.Dec.{ltb}
+use Rattle.link.specs.Profile.{knownProfile}
 use Rattle.tsar.specs.Rows.{Refusal, refusal, refusal-append, orElse, Passed, any-none}
 use Rattle.sender.specs.declared.SenderError.{SenderError}
 use Rattle.sender.specs.declared.Check.{Check}
@@ -16,7 +17,7 @@ use Rattle.sender.specs.declared.Outline.{Outline}
 use Rattle.sender.specs.declared.Moved.{Moved}
 use Rattle.sender.specs.declared.Moved.the-variants as moved
 use Rattle.sender.specs.Numbers.{senderNumber}
-use Rattle.sender.specs.Record.{faults, impossible}
+use Rattle.sender.specs.Record.{faults, impossible, impossibleIn}
 use Rattle.sender.specs.Calls.{Turn, refuses, left, orTickets, onRefusal, clockRows}
 use Rattle.sender.specs.Pending.{or-none}
 use Rattle.sender.specs.Says.{checkedBy}
@@ -43,10 +44,11 @@ passed-clock o p k ds e = record { rest = first-passes (clockRows o p k) ds e }
 
 -- ---- how many segments
 
-pub segments : (n : ℕ) (p : Progress) → impossible n p ≡ false → (2 ≤ n) × (n ≤ 256)
+pub segments : (o : Outline) (p : Progress) → impossibleIn o p ≡ false → (2 ≤ o .count) × (o .count ≤ 256)
 unfolding impossible
-segments n p e =
-    let z = or-none (ltb n 2) (ltb 256 n) (any-none (faults n p) e 0) in
+segments o p e =
+    let n = o .count in
+    let z = or-none (ltb n 2) (ltb 256 n) (any-none (faults n p) (or-none (impossible n p) (not (knownProfile (o .profile))) e .0) 0) in
     (ltb-false n 2 (z .0), ltb-false 256 n (z .1))
 
 -- ---- a call

@@ -3,7 +3,7 @@
 use Prim.Native.Nat.{ℕ, _-_, _^_, _≤_}
 use mathlib.Core.Path.{_≡_, refl, sym, ap, _∙_, subst}
 use mathlib.Core.List.{List, [], _∷_, _++_}
-use mathlib.Core.Bool.{Bool, true, false, cond, not, _&&_, true≢false}
+use mathlib.Core.Bool.{Bool, true, false, cond, not, _&&_, _||_, true≢false}
 use mathlib.Core.Option.{Option, none, some}
 use native.Mathlib.Omega.{arith}
 use borrow.Author.Tests.{ltb-false, not-true, not-false}
@@ -12,6 +12,7 @@ use Rattle.words.specs.Marks.{marked, noMarks, allBelow}
 use Rattle.words.specs.Search.{lowest-at}
 use Rattle.words.specs.Laws.{marked-none}
 use Rattle.words.specs.declared.Words.{Words}
+use Rattle.link.specs.Profile.{knownProfile}
 use Rattle.tsar.specs.Rows.{Refusal, refusal, either, refusal-none}
 use Rattle.tsar.specs.Kinds.{prohibited}
 use Rattle.response.specs.Responses.{responseRows}
@@ -24,12 +25,12 @@ use Rattle.sender.specs.declared.Progress.{Progress}
 use Rattle.sender.specs.declared.Outline.{Outline}
 use Rattle.sender.specs.declared.Arrival.{Arrival}
 use Rattle.sender.specs.declared.Sender.{Sender}
-use Rattle.sender.specs.Record.{isPrepared, awaitsAccept, isClosed, late, due, planCount, outline, needs, impossible}
+use Rattle.sender.specs.Record.{isPrepared, awaitsAccept, isClosed, late, due, planCount, outline, needs, impossibleIn}
 use Rattle.sender.specs.Steps.{finish, advanced, setsDeadline, counted, acceptedNext, cancelled, react}
 use Rattle.sender.specs.Calls.{Answer, refused, answered, Step, Turn, refuses, left, orTickets, onRefusal, advancedTo, clockRows, advanceIn, advanceOf, cancelIn, cancelOf, owns, preparedAt, offerRows, submittedRows, countRows, counting, submitting, submittedIn, submittedOf, awaitsWord, awaitedRows, wordRows, afterAdvance, acceptedIn, acceptedOf, lowerFailedIn, lowerFailedOf, acknowledgesUnsubmitted, arrivalRows, entryRows, responseRowsOf, reacted, lateFirst, receiveResponseIn, receiveResponseOf}
 use Rattle.sender.specs.TryNew.{firstSender}
 use Rattle.sender.specs.Pending.{and-both, or-none, below-none}
-use Rattle.sender.specs.Reached.{Reached, reached-later, not-impossible}
+use Rattle.sender.specs.Reached.{Standing, Reached, reached-later, not-impossible}
 use Rattle.sender.specs.Keeps.{finish-reached, advanced-submitted, advanced-reached, counted-reached, accepted-reached, accepted-last, cancelled-reached, cancelled-last, react-reached}
 
 -- ---- the calls
@@ -51,14 +52,14 @@ stepOf interval s (accepted number ticket k) = acceptedOf s number ticket k
 stepOf interval s (lowerFailed number ticket failure k) = lowerFailedOf s number ticket failure k
 stepOf interval s (receiveResponse a) = receiveResponseOf s a
 
--- each call gets the sender as the last one left it
-abbrev pub afterwards : ℕ → Sender → List Call → Sender
-afterwards interval s [] = s
-afterwards interval s (c ∷ cs) = afterwards interval (stepOf interval s c .sender) cs
+-- what a list of calls leaves and answers, by any such step: each call gets the sender as the last one left it
+abbrev pub afterwards : (Sender → Call → Step) → Sender → List Call → Sender
+afterwards step s [] = s
+afterwards step s (c ∷ cs) = afterwards step (step s c .sender) cs
 
-abbrev pub answers : ℕ → Sender → List Call → List Answer
-answers interval s [] = []
-answers interval s (c ∷ cs) = stepOf interval s c .answer ∷ answers interval (stepOf interval s c .sender) cs
+abbrev pub answers : (Sender → Call → Step) → Sender → List Call → List Answer
+answers step s [] = []
+answers step s (c ∷ cs) = step s c .answer ∷ answers step (step s c .sender) cs
 
 -- none of a list of answers is a refusal with 62
 abbrev pub NoneImpossible : List Answer → Type 0
@@ -197,6 +198,17 @@ response-keeps interval t o p a h =
     same : advancedTo o p (a .reading) .submitted ≡ p .submitted
     same = advanced-submitted (o .count) (o .«acknowledgment_window») p (a .reading)
 
+-- ---- every call leaves the terms, the profile among them, whatever sender it is made on
+
+pub terms-kept : (interval : ℕ) (s : Sender) (c : Call) → stepOf interval s c .sender .terms ≡ s .terms
+unfolding advanceOf cancelOf submittedOf acceptedOf lowerFailedOf receiveResponseOf
+terms-kept interval s (advance k) = refl
+terms-kept interval s (cancel k) = refl
+terms-kept interval s (submitted number ticket queued observed) = refl
+terms-kept interval s (accepted number ticket k) = refl
+terms-kept interval s (lowerFailed number ticket failure k) = refl
+terms-kept interval s (receiveResponse a) = refl
+
 -- ---- every call keeps the facts
 
 pub step-keeps : (interval : ℕ) (s : Sender) (c : Call) → ReachedSender interval s → ReachedSender interval (stepOf interval s c .sender)
@@ -259,9 +271,13 @@ says-not b v cs p t e n a =
     go (some r) f = rw (e, f) (says-other cs n r f)
     go none f = rw (e, f) a
 
-module _ (interval : ℕ) (o : Outline) (p : Progress) (h : Now interval o p) where
-  possible : impossible (o .count) p ≡ false
-  possible = not-impossible (o .count) (o .«acknowledgment_window») p (h .standing)
+-- a sender of a known profile that stands as the reached ones do is not impossible
+pub standing-possible : (o : Outline) (p : Progress) → Standing (o .count) (o .«acknowledgment_window») p → knownProfile (o .profile) ≡ true → impossibleIn o p ≡ false
+standing-possible o p h k = ap (λ (b : Bool). b || not (knownProfile (o .profile))) (not-impossible (o .count) (o .«acknowledgment_window») p h) ∙ ap not k
+
+module _ (interval : ℕ) (o : Outline) (p : Progress) (h : Now interval o p) (k : knownProfile (o .profile) ≡ true) where
+  possible : impossibleIn o p ≡ false
+  possible = standing-possible o p (h .standing) k
 
   counting-says : (queued observed : ℕ) → isImpossible (counting interval (o .count) (o .«acknowledgment_window») p queued observed .answer) ≡ false
   counting-says queued observed = go (refusal rows) refl
@@ -275,22 +291,22 @@ module _ (interval : ℕ) (o : Outline) (p : Progress) (h : Now interval o p) wh
 
   advance-says : (k : ℕ) → isImpossible (advanceIn o p k .answer) ≡ false
   unfolding advanceIn
-  advance-says k = says-not (impossible (o .count) p) (62, 0) ((ltb k (p .«last_monotonic_ms»), (33, 0)) ∷ []) p (left (advancedTo o p k)) possible refl refl
+  advance-says k = says-not (impossibleIn o p) (62, 0) ((ltb k (p .«last_monotonic_ms»), (33, 0)) ∷ []) p (left (advancedTo o p k)) possible refl refl
 
   cancel-says : (k : ℕ) → isImpossible (cancelIn o p k .answer) ≡ false
   unfolding cancelIn
-  cancel-says k = says-not (impossible (o .count) p) (62, 0) ((ltb k (p .«last_monotonic_ms»), (33, 0)) ∷ []) p (left (cancelled (advancedTo o p k))) possible refl refl
+  cancel-says k = says-not (impossibleIn o p) (62, 0) ((ltb k (p .«last_monotonic_ms»), (33, 0)) ∷ []) p (left (cancelled (advancedTo o p k))) possible refl refl
 
   submitted-says : (own number ticket queued observed : ℕ) → isImpossible (submittedIn interval own o p number ticket queued observed .answer) ≡ false
   unfolding submittedIn
   submitted-says own number ticket queued observed =
-      says-not (impossible (o .count) p) (62, 0) ((ltb observed (p .«last_monotonic_ms»), (33, 0)) ∷ offerRows own p number ticket queued observed) p (submitting interval o p queued observed) possible refl
+      says-not (impossibleIn o p) (62, 0) ((ltb observed (p .«last_monotonic_ms»), (33, 0)) ∷ offerRows own p number ticket queued observed) p (submitting interval o p queued observed) possible refl
       (either (λ (t : Turn). isImpossible (t .answer) ≡ false) (prohibited (o .«acknowledgment_window») && due (p .«deadline_monotonic_ms») queued) (refuses (44, 0) (advancedTo o p observed)) (counting interval (o .count) (o .«acknowledgment_window») p queued observed)
       (λ e. refl) (λ e. counting-says queued observed))
 
   word-says : (own number ticket k : ℕ) (next : Progress) → isImpossible (orTickets p (onRefusal (refusal (wordRows own o p number ticket k)) p (afterAdvance own number ticket (advancedTo o p k) next)) .answer) ≡ false
   word-says own number ticket k next =
-      says-not (impossible (o .count) p) (62, 0) ((ltb k (p .«last_monotonic_ms»), (33, 0)) ∷ awaitedRows own p number ticket) p (afterAdvance own number ticket (advancedTo o p k) next) possible refl
+      says-not (impossibleIn o p) (62, 0) ((ltb k (p .«last_monotonic_ms»), (33, 0)) ∷ awaitedRows own p number ticket) p (afterAdvance own number ticket (advancedTo o p k) next) possible refl
       (either (λ (t : Turn). isImpossible (t .answer) ≡ false) (awaitsWord own (advancedTo o p k) number ticket) (left next) (refuses (42, 0) (advancedTo o p k)) (λ e. refl) (λ e. refl))
 
   accepted-says : (own number ticket k : ℕ) → isImpossible (acceptedIn own o p number ticket k .answer) ≡ false
@@ -304,25 +320,26 @@ module _ (interval : ℕ) (o : Outline) (p : Progress) (h : Now interval o p) wh
   response-says : (t : Terms) (a : Arrival) → isImpossible (receiveResponseIn t o p a .answer) ≡ false
   unfolding receiveResponseIn
   response-says t a =
-      says-not (impossible (o .count) p) (62, 0) ((ltb (a .reading) (p .«last_monotonic_ms»), (33, 0)) ∷ (arrivalRows t p a ++ (responseRows (t .version) (a .response) ++ entryRows o p (a .response)))) p (lateFirst o p a) possible refl
+      says-not (impossibleIn o p) (62, 0) ((ltb (a .reading) (p .«last_monotonic_ms»), (33, 0)) ∷ (arrivalRows t p a ++ (responseRows (t .version) (a .response) ++ entryRows o p (a .response)))) p (lateFirst o p a) possible refl
       (either (λ (u : Turn). isImpossible (u .answer) ≡ false) (late (p .«deadline_monotonic_ms») (a .reading)) _ (left (reacted o p a))
       (λ l. either (λ (u : Turn). isImpossible (u .answer) ≡ false) (isClosed (advancedTo o p (a .reading) .state)) (refuses (38, 0) (advancedTo o p (a .reading))) (left (reacted o (advancedTo o p (a .reading)) a)) (λ c. refl) (λ c. refl)) (λ l. refl))
 
-step-says : (interval : ℕ) (s : Sender) (c : Call) → ReachedSender interval s → isImpossible (stepOf interval s c .answer) ≡ false
+step-says : (interval : ℕ) (s : Sender) (c : Call) → ReachedSender interval s → knownProfile (s .terms .profile) ≡ true → isImpossible (stepOf interval s c .answer) ≡ false
 unfolding advanceOf cancelOf submittedOf acceptedOf lowerFailedOf receiveResponseOf
-step-says interval s (advance k) h = advance-says interval (outline s) (s .progress) h k
-step-says interval s (cancel k) h = cancel-says interval (outline s) (s .progress) h k
-step-says interval s (submitted number ticket queued observed) h = submitted-says interval (outline s) (s .progress) h (s .terms .number) number ticket queued observed
-step-says interval s (accepted number ticket k) h = accepted-says interval (outline s) (s .progress) h (s .terms .number) number ticket k
-step-says interval s (lowerFailed number ticket failure k) h = failed-says interval (outline s) (s .progress) h (s .terms .number) number ticket failure k
-step-says interval s (receiveResponse a) h = response-says interval (outline s) (s .progress) h (s .terms) a
+step-says interval s (advance k) h known = advance-says interval (outline s) (s .progress) h known k
+step-says interval s (cancel k) h known = cancel-says interval (outline s) (s .progress) h known k
+step-says interval s (submitted number ticket queued observed) h known = submitted-says interval (outline s) (s .progress) h known (s .terms .number) number ticket queued observed
+step-says interval s (accepted number ticket k) h known = accepted-says interval (outline s) (s .progress) h known (s .terms .number) number ticket k
+step-says interval s (lowerFailed number ticket failure k) h known = failed-says interval (outline s) (s .progress) h known (s .terms .number) number ticket failure k
+step-says interval s (receiveResponse a) h known = response-says interval (outline s) (s .progress) h known (s .terms) a
 
 -- ---- of every list of calls
 
-pub list-keeps : (interval : ℕ) (s : Sender) (cs : List Call) → ReachedSender interval s → ReachedSender interval (afterwards interval s cs)
+pub list-keeps : (interval : ℕ) (s : Sender) (cs : List Call) → ReachedSender interval s → ReachedSender interval (afterwards (stepOf interval) s cs)
 list-keeps interval s [] h = h
 list-keeps interval s (c ∷ cs) h = list-keeps interval (stepOf interval s c .sender) cs (step-keeps interval s c h)
 
-pub list-says : (interval : ℕ) (s : Sender) (cs : List Call) → ReachedSender interval s → NoneImpossible (answers interval s cs)
-list-says interval s [] h = tt
-list-says interval s (c ∷ cs) h = (λ e. true≢false (sym (ap isImpossible e) ∙ step-says interval s c h), list-says interval (stepOf interval s c .sender) cs (step-keeps interval s c h))
+pub list-says : (interval : ℕ) (s : Sender) (cs : List Call) → ReachedSender interval s → knownProfile (s .terms .profile) ≡ true → NoneImpossible (answers (stepOf interval) s cs)
+list-says interval s [] h k = tt
+list-says interval s (c ∷ cs) h k =
+    (λ e. true≢false (sym (ap isImpossible e) ∙ step-says interval s c h k), list-says interval (stepOf interval s c .sender) cs (step-keeps interval s c h) (ap (λ (t : Terms). knownProfile (t .profile)) (terms-kept interval s c) ∙ k))

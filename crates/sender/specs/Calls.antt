@@ -25,7 +25,7 @@ use Rattle.sender.specs.declared.Progress.{Progress}
 use Rattle.sender.specs.declared.Outline.{Outline}
 use Rattle.sender.specs.declared.Arrival.{Arrival}
 use Rattle.sender.specs.declared.Sender.{Sender}
-use Rattle.sender.specs.Record.{isPrepared, awaitsAccept, isClosed, late, due, outline, impossible}
+use Rattle.sender.specs.Record.{isPrepared, awaitsAccept, isClosed, late, due, outline, impossibleIn}
 use Rattle.sender.specs.Steps.{finish, advanced, setsDeadline, counted, acceptedNext, cancelled, react}
 
 -- ---- what a call answers and leaves
@@ -69,7 +69,7 @@ advancedTo o p now′ = advanced (o .count) (o .«acknowledgment_window») p now
 
 -- 62, then 33
 abbrev pub clockRows : Outline → Progress → ℕ → List (Bool × Refusal)
-clockRows o p now′ = (impossible (o .count) p, (62, 0)) ∷ (ltb now′ (p .«last_monotonic_ms»), (33, 0)) ∷ []
+clockRows o p now′ = (impossibleIn o p, (62, 0)) ∷ (ltb now′ (p .«last_monotonic_ms»), (33, 0)) ∷ []
 
 -- ---- advance and cancel
 

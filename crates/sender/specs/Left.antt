@@ -58,7 +58,7 @@ acts o p k e f =
     ∙ ap (λ (b : Bool). cond b (refuses (63, 0) p) (left (advancedTo o p k))) f
 
 -- before the deadline advance takes the reading alone
-idle : (o : Outline) (p : Progress) (k : ℕ) → due (p .«deadline_monotonic_ms») k ≡ false → advancedTo o p k ≡ read p k
+pub idle : (o : Outline) (p : Progress) (k : ℕ) → due (p .«deadline_monotonic_ms») k ≡ false → advancedTo o p k ≡ read p k
 unfolding advanced
 idle o p k e = ap (λ (b : Bool). read (cond b (fire (o .count) (o .«acknowledgment_window») p k) p) k) (ap (λ (b : Bool). not (isClosed (p .state)) && b) e ∙ neither (not (isClosed (p .state))))
   where

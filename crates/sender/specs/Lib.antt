@@ -15,3 +15,4 @@ pub mod Made
 pub mod Leaves
 pub mod Left
 pub mod Exact
+pub mod Own

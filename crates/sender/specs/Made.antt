@@ -10,6 +10,7 @@ use native.Mathlib.Omega.{arith}
 use borrow.Author.Tests.{eqb-true, not-false}
 use lib.ListN.{length}
 use lib.Dec.{eqb}
+use Rattle.link.specs.Profile.{knownProfile}
 use Rattle.tsar.specs.Rows.{Refusal, refusal, refusal-none}
 use Rattle.tsar.specs.Layout.{windowNumber}
 use Rattle.segmentation.specs.Plan.{Planning, refused as planRefused, unsegmented, segmented}
@@ -24,10 +25,10 @@ use Rattle.sender.specs.declared.Plan.{Plan}
 use Rattle.sender.specs.declared.SenderState.{SenderState}
 use Rattle.sender.specs.declared.Terms.{Terms}
 use Rattle.sender.specs.Record.{sameBool, planCount}
-use Rattle.sender.specs.Calls.{refused, answered}
+use Rattle.sender.specs.Calls.{answered}
 use Rattle.sender.specs.TryNew.{samePlan, isPlan, atOwn, isPlanned, proposing, isFrozen, isEmpty, isGiven, tryNewRows, madeAfter, tryNewOf}
 use Rattle.sender.specs.Pending.{and-both}
-use Rattle.sender.specs.CallList.{Call, answers, afterwards, NoneImpossible, ReachedSender, first-reached, list-keeps, list-says}
+use Rattle.sender.specs.CallList.{Call, stepOf, answers, afterwards, NoneImpossible, ReachedSender, first-reached, list-keeps, list-says}
 
 -- two plans that are the same have one count
 same-count : (p q : SegmentedMessage) → samePlan p q ≡ true → p .count ≡ q .count
@@ -86,6 +87,25 @@ given-count p message e = go (p .form) e
 
 -- ---- from a try_new that was not refused
 
+module _ (t : Terms) (p : Plan) (message : List ℕ) (k : ℕ) (s : SenderState) (ok : tryNewOf t p message k .answer ≡ answered s) where
+  -- with the terms that it was given
+  pub made-terms : tryNewOf t p message k .sender .terms ≡ t
+  unfolding tryNewOf
+  made-terms = go (refusal (tryNewRows t p message)) ok
+    where
+      go : (r : Option Refusal) → madeAfter r t p k .answer ≡ answered s → madeAfter r t p k .sender .terms ≡ t
+      go (some v) e = absurd (let z : _≡_ {A = ℕ} 0 1 = cc in omega arith)
+      go none e = refl
+
+  -- of a known profile: it passed 64
+  pub made-known : knownProfile (tryNewOf t p message k .sender .terms .profile) ≡ true
+  unfolding tryNewOf
+  made-known = go (refusal (tryNewRows t p message)) refl ok
+    where
+      go : (r : Option Refusal) → refusal (tryNewRows t p message) ≡ r → madeAfter r t p k .answer ≡ answered s → knownProfile (madeAfter r t p k .sender .terms .profile) ≡ true
+      go (some v) q e = absurd (let z : _≡_ {A = ℕ} 0 1 = cc in omega arith)
+      go none q e = not-false (knownProfile (t .profile)) (refusal-none (tryNewRows t p message) q 2)
+
 module _ (interval : ℕ) (t : Terms) (p : Plan) (message : List ℕ) (k : ℕ) (s : SenderState) (ok : tryNewOf t p message k .answer ≡ answered s) where
   pub made-reached : ReachedSender interval (tryNewOf t p message k .sender)
   unfolding tryNewOf
@@ -94,13 +114,13 @@ module _ (interval : ℕ) (t : Terms) (p : Plan) (message : List ℕ) (k : ℕ) 
       go : (r : Option Refusal) → refusal (tryNewRows t p message) ≡ r → madeAfter r t p k .answer ≡ answered s → ReachedSender interval (madeAfter r t p k .sender)
       go (some v) q e = absurd (let z : _≡_ {A = ℕ} 0 1 = cc in omega arith)
       go none q e =
-          let g = given-count p message (not-false (isGiven p message) (refusal-none (tryNewRows t p message) q 2)) in
+          let g = given-count p message (not-false (isGiven p message) (refusal-none (tryNewRows t p message) q 3)) in
           first-reached interval t p k (g .0) (g .1)
 
   -- every list of calls keeps the facts
-  pub calls-reach : (cs : List Call) → ReachedSender interval (afterwards interval (tryNewOf t p message k .sender) cs)
+  pub calls-reach : (cs : List Call) → ReachedSender interval (afterwards (stepOf interval) (tryNewOf t p message k .sender) cs)
   calls-reach cs = list-keeps interval (tryNewOf t p message k .sender) cs made-reached
 
   -- and no call of it is refused with 62
-  pub calls-possible : (cs : List Call) → NoneImpossible (answers interval (tryNewOf t p message k .sender) cs)
-  calls-possible cs = list-says interval (tryNewOf t p message k .sender) cs made-reached
+  pub calls-possible : (cs : List Call) → NoneImpossible (answers (stepOf interval) (tryNewOf t p message k .sender) cs)
+  calls-possible cs = list-says interval (tryNewOf t p message k .sender) cs made-reached (made-known t p message k s ok)

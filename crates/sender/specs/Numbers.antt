@@ -1,4 +1,4 @@
--- Document 01's numbers, 'Refusals by what is returned': 30 to 34, 38, 40 to 49, 62, 63, and the codec's own.
+-- Document 01's numbers, 'Refusals by what is returned': 30 to 34, 38, 40 to 49, 62, 63, and the codec's own; 64 is change request 2026-11's.
 use Rattle.tsar.specs.Rows.{Refusal}
 use Rattle.tsar.specs.Numbers.{number}
 use Rattle.sender.specs.declared.SenderError.{SenderError}
@@ -24,3 +24,4 @@ senderNumber error.UnsubmittedAcknowledgment = (48, 0)
 senderNumber error.ContradictoryReceipt = (49, 0)
 senderNumber error.ImpossibleState = (62, 0)
 senderNumber error.Tickets = (63, 0)
+senderNumber error.Profile = (64, 0)

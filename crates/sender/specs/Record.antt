@@ -6,6 +6,7 @@ use lib.Dec.{leb, ltb}
 use Rattle.words.specs.Marks.{marked, allBelow, lowestOf}
 use Rattle.words.specs.declared.Words.{Words}
 use Rattle.words.specs.declared.Found.{Found}
+use Rattle.link.specs.Profile.{knownProfile, senderInterval}
 pub use Rattle.tsar.specs.Kinds.{isExceptions}
 use Rattle.tsar.specs.Rows.{anyOf}
 use Rattle.tsar.specs.declared.AcknowledgmentWindow.{AcknowledgmentWindow}
@@ -120,7 +121,8 @@ abbrev pub sameBool : Bool → Bool → Bool
 sameBool true b = b
 sameBool false b = not b
 
--- of a sender of n segments
+-- of the progress of a sender of n segments: document 01's list. The sender's profile is no part of the progress: that of neither profile is the one
+-- test more of 62 (2026-11), and `impossibleIn`, below, has it beside these
 abbrev pub faults : ℕ → Progress → List Bool
 faults n p =
     -- count not 2 to 256
@@ -139,10 +141,18 @@ faults n p =
 unfoldable pub impossible : ℕ → Progress → Bool
 impossible n p = anyOf (faults n p)
 
--- ---- what the calls read of the plan
+-- ---- what the calls read of the plan, and the profile
 
-abbrev pub outlineOf : Plan → Outline
-outlineOf p = record { count = planCount p; «acknowledgment_window» = planWindow p; «transaction_id» = planTransaction p }
+abbrev pub outlineOf : ℕ → Plan → Outline
+outlineOf profile p = record { count = planCount p; «acknowledgment_window» = planWindow p; «transaction_id» = planTransaction p; profile = profile }
 
 abbrev pub outline : Sender → Outline
-outline s = outlineOf (s .plan)
+outline s = outlineOf (s .terms .profile) (s .plan)
+
+-- 62 as the calls have it, in one row: the progress has one of `faults`, or the sender is of neither profile
+abbrev pub impossibleIn : Outline → Progress → Bool
+impossibleIn o p = impossible (o .count) p || not (knownProfile (o .profile))
+
+-- the sender's own interval, in milliseconds: its profile's
+abbrev pub intervalOf : Sender → ℕ
+intervalOf s = senderInterval (s .terms .profile)

@@ -7,6 +7,7 @@ use lib.ListN.{length}
 use lib.Dec.{eqb, ltb}
 use Rattle.words.specs.Marks.{noMarks}
 use Rattle.link.specs.Peer.{identityRefused, protocolServed}
+use Rattle.link.specs.Profile.{knownProfile}
 use Rattle.link.specs.declared.HigherLayerProtocol.the-variants.{Segmented}
 use Rattle.tsar.specs.Rows.{Refusal, refusal}
 use Rattle.tsar.specs.Kinds.{sameKind}
@@ -113,11 +114,12 @@ isGiven p message = elim (p .form) [ form.Planned q ↦ isPlanned q (length mess
 
 -- ---- try_new
 
--- 30, 31, 40; of the codec only the version is left
+-- 30, 31, 64, 40; of the codec only the version is left
 abbrev pub tryNewRows : Terms → Plan → List ℕ → List (Bool × Refusal)
 tryNewRows t p message =
     (identityRefused (t .peer), (30, 0))
     ∷ (not (protocolServed (t .protocol)), (31, 0))
+    ∷ (not (knownProfile (t .profile)), (64, 0))
     ∷ (not (isGiven p message), (40, 0))
     ∷ (ltb (t .version) 1, (1, 0))
     ∷ []
@@ -140,11 +142,11 @@ firstOffer now′ =
 abbrev pub firstSender : Terms → Plan → ℕ → Sender
 firstSender t p now′ = record { terms = t; progress = firstOffer now′; plan = p }
 
--- beside a refusal: a cancelled sender of no peer and no plan
+-- beside a refusal: a cancelled sender of no peer and no plan, of profile 1
 abbrev pub noSender : Sender
 noSender =
     record {
-      terms = record { peer = record { kind = 0; width = 0; value = 0 }; protocol = Segmented 0; version = 0; number = 0 };
+      terms = record { peer = record { kind = 0; width = 0; value = 0 }; protocol = Segmented 0; version = 0; profile = 1; number = 0 };
       progress = record {
         state = Cancelled;
         current = current.Nothing;

@@ -1,7 +1,7 @@
 // The refusals of the calls, in document 01's order.
 use crate::Arrival;
 use crate::Check;
-use crate::LATEST_QUEUED_MS;
+use crate::MAX_READING_MS;
 use crate::MAX_SEGMENTS;
 use crate::MAX_SUBMISSIONS;
 use crate::MIN_SEGMENTS;
@@ -18,13 +18,14 @@ use crate::state::either;
 use crate::state::is_prohibited;
 use crate::state::is_received;
 use crate::state::same;
+use link::profiles::known_profile;
 use response::Response;
 use tsar::Validated;
 ghost use mathlib.Core.Path.{_≡_};
 ghost use mathlib.Core.Bool.{_||_};
 ghost use Prim.Native.Nat.{_≤_};
 ghost use Rattle.tsar.specs.Rows.{refusal};
-ghost use Rattle.sender.specs.Record.{markPast, impossible};
+ghost use Rattle.sender.specs.Record.{markPast, impossible, impossibleIn};
 ghost use Rattle.sender.specs.Calls.{clockRows, submittedRows, countRows, wordRows, arrivalRows, entryRows, responseRowsOf};
 ghost use Rattle.sender.specs.Says.{checkedBy};
 
@@ -68,11 +69,21 @@ impl Progress {
         both(state.closed(), deadline.running())
     }
 
+    // 62: document 01's list, and a profile that is neither.
+    fn impossible_in(self, outline: Outline) -> bool
+        ensures { λ r. ⌜ r ≡ impossibleIn outline self ⌝ }
+    {
+        if self.impossible(outline.count) {
+            return true;
+        }
+        !known_profile(outline.profile)
+    }
+
     // 62, 33.
     pub(crate) fn check_clock(self, outline: Outline, monotonic_ms: u64) -> Check
         ensures { λ r. ⌜ checkedBy r ≡ refusal (clockRows outline self «monotonic_ms») ⌝ }
     {
-        if self.impossible(outline.count) {
+        if self.impossible_in(outline) {
             return Check::Refuse(SenderError::ImpossibleState);
         }
         if monotonic_ms < self.last_monotonic_ms {
@@ -117,10 +128,11 @@ impl Progress {
     }
 
     // 34, 41. `sets`: the submission sets a deadline.
-    pub(crate) fn check_count(self, sets: bool, queued_monotonic_ms: u64) -> Check
-        ensures { λ r. ⌜ checkedBy r ≡ refusal (countRows 330000 sets self «queued_monotonic_ms») ⌝ }
+    pub(crate) fn check_count(self, interval: u64, sets: bool, queued_monotonic_ms: u64) -> Check
+        ensures { λ r. ⌜ checkedBy r ≡ refusal (countRows interval sets self «queued_monotonic_ms») ⌝ }
     {
-        if both(sets, LATEST_QUEUED_MS < queued_monotonic_ms) {
+        let latest = MAX_READING_MS - interval;
+        if both(sets, latest < queued_monotonic_ms) {
             return Check::Refuse(SenderError::TimeOverflow);
         }
         if MAX_SUBMISSIONS <= self.layer3_submissions {

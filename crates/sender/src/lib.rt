@@ -1,6 +1,7 @@
 // The sender of one transaction: link/tsar/sender.rs of the source.
 use link::HigherLayerProtocol;
 use link::MobileIdentity;
+use link::profiles::known_profile;
 use response::Response;
 use response::Status;
 use segmentation::FrozenMessage;
@@ -12,6 +13,7 @@ use tsar::Error;
 use words::Words;
 ghost use mathlib.Core.Path.{_≡_};
 ghost use Rattle.sender.specs.Numbers.{senderNumber};
+ghost use Rattle.sender.specs.Record.{intervalOf};
 ghost use Rattle.sender.specs.Calls.{refused, placed, advanceOf, cancelOf, submittedOf, acceptedOf, lowerFailedOf, receiveResponseOf};
 ghost use Rattle.sender.specs.TryNew.{firstOffer, noSender, tryNewOf, offered as offeredOf, offerOf};
 ghost use Rattle.sender.specs.Says.{sent, turned};
@@ -23,11 +25,8 @@ mod state;
 mod steps;
 mod turns;
 
-// How long a sender waits after a submission, in milliseconds.
-const SEGMENT_INTERVAL_MS: u64 = 330_000;
-
-// The last queued reading whose deadline is one of 64 bits.
-const LATEST_QUEUED_MS: u64 = 18_446_744_073_709_221_615;
+// The highest reading of the clock.
+const MAX_READING_MS: u64 = 18_446_744_073_709_551_615;
 
 const MAX_TICKET: u64 = 18_446_744_073_709_551_615;
 
@@ -120,11 +119,13 @@ pub enum Current {
     Submission(Submission),
 }
 
-// What try_new fixes, but for the plan. The sender number and a ticket are the source's token.
+// What try_new fixes, but for the plan. The profile says how long the sender waits; a record can have any number there, and one of neither profile is
+// impossible. The sender number and a ticket are the source's token.
 pub struct Terms {
     pub peer: MobileIdentity,
     pub protocol: HigherLayerProtocol,
     pub version: u8,
+    pub profile: u8,
     pub number: u64,
 }
 
@@ -146,7 +147,7 @@ pub struct Sender {
     pub plan: Plan,
 }
 
-// The last two are document 01's 62 and 63, which the source has not.
+// The last three are document 01's 62 and 63 and 2026-11's 64, which the source has not.
 pub enum SenderError {
     Identity,
     Plan,
@@ -167,6 +168,7 @@ pub enum SenderError {
     ContradictoryReceipt,
     ImpossibleState,
     Tickets,
+    Profile,
 }
 
 pub enum SenderAnswer {
@@ -180,11 +182,12 @@ pub struct Sent {
     pub sender: Sender,
 }
 
-// What the calls read of the plan.
+// What the calls read of the plan, and the profile.
 pub struct Outline {
     pub count: usize,
     pub acknowledgment_window: AcknowledgmentWindow,
     pub transaction_id: u8,
+    pub profile: u8,
 }
 
 // What one response brings.
@@ -250,6 +253,7 @@ fn no_sender() -> Sender
             },
             protocol: HigherLayerProtocol::Segmented(0),
             version: 0,
+            profile: 1,
             number: 0,
         },
         progress: Progress {
@@ -325,16 +329,20 @@ impl Sender {
         plan: Plan,
         message: &[u8],
         version: u8,
+        profile: u8,
         number: u64,
         monotonic_ms: u64,
     ) -> Sent
-        ensures { λ r. ⌜ sent r ≡ tryNewOf (record { peer = peer; protocol = protocol; version = version; number = number }) plan (now (message .entry)) «monotonic_ms» ⌝ }
+        ensures { λ r. ⌜ sent r ≡ tryNewOf (record { peer = peer; protocol = protocol; version = version; profile = profile; number = number }) plan (now (message .entry)) «monotonic_ms» ⌝ }
     {
         if peer.refused() {
             return not_made(SenderError::Identity);
         }
         if !protocol.served() {
             return not_made(SenderError::Service);
+        }
+        if !known_profile(profile) {
+            return not_made(SenderError::Profile);
         }
         if !plan.is_given(message) {
             return not_made(SenderError::Plan);
@@ -347,6 +355,7 @@ impl Sender {
             peer,
             protocol,
             version,
+            profile,
             number,
         };
         Sent {
@@ -415,7 +424,7 @@ impl Sender {
     {
         let plan = self.plan;
         let progress = self.progress;
-        self.placed(progress.advance(plan.outline(), monotonic_ms))
+        self.placed(progress.advance(plan.outline(self.terms.profile), monotonic_ms))
     }
 
     pub fn cancel(self, monotonic_ms: u64) -> Sent
@@ -423,7 +432,7 @@ impl Sender {
     {
         let plan = self.plan;
         let progress = self.progress;
-        self.placed(progress.cancel(plan.outline(), monotonic_ms))
+        self.placed(progress.cancel(plan.outline(self.terms.profile), monotonic_ms))
     }
 
     // The actual hand-off to Layer 3, apart from its observation: preparing alone starts no deadline.
@@ -434,13 +443,13 @@ impl Sender {
         queued_monotonic_ms: u64,
         observed_monotonic_ms: u64,
     ) -> Sent
-        ensures { λ r. ⌜ sent r ≡ submittedOf 330000 self number ticket «queued_monotonic_ms» «observed_monotonic_ms» ⌝ }
+        ensures { λ r. ⌜ sent r ≡ submittedOf (intervalOf self) self number ticket «queued_monotonic_ms» «observed_monotonic_ms» ⌝ }
     {
         let plan = self.plan;
         let progress = self.progress;
         self.placed(progress.submitted(
             self.terms.number,
-            plan.outline(),
+            plan.outline(self.terms.profile),
             number,
             ticket,
             queued_monotonic_ms,
@@ -456,7 +465,7 @@ impl Sender {
         let progress = self.progress;
         self.placed(progress.accepted(
             self.terms.number,
-            plan.outline(),
+            plan.outline(self.terms.profile),
             number,
             ticket,
             monotonic_ms,
@@ -476,7 +485,7 @@ impl Sender {
         let progress = self.progress;
         self.placed(progress.lower_failed(
             self.terms.number,
-            plan.outline(),
+            plan.outline(self.terms.profile),
             number,
             ticket,
             failure,
@@ -505,6 +514,6 @@ impl Sender {
             unparsed: unparsed_bits,
             reading: monotonic_ms,
         };
-        self.placed(progress.receive_response(terms, plan.outline(), arrival))
+        self.placed(progress.receive_response(terms, plan.outline(self.terms.profile), arrival))
     }
 }

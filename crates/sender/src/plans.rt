@@ -262,9 +262,9 @@ impl Plan {
         }
     }
 
-    // What the calls read of it.
-    pub(crate) fn outline(self) -> Outline
-        ensures { λ r. ⌜ r ≡ outlineOf self ⌝ }
+    // What the calls read of it, beside the profile.
+    pub(crate) fn outline(self, profile: u8) -> Outline
+        ensures { λ r. ⌜ r ≡ outlineOf profile self ⌝ }
     {
         let form = self.form;
         match form {
@@ -274,6 +274,7 @@ impl Plan {
                     count: p.count,
                     acknowledgment_window,
                     transaction_id: p.transaction_id,
+                    profile,
                 }
             }
             PlanForm::Frozen => {
@@ -284,6 +285,7 @@ impl Plan {
                     count: frozen.count,
                     acknowledgment_window,
                     transaction_id: head.segment.transaction_id,
+                    profile,
                 }
             }
         }

@@ -8,7 +8,6 @@ use crate::Moved;
 use crate::Progress;
 use crate::REACTIONS;
 use crate::Reaction;
-use crate::SEGMENT_INTERVAL_MS;
 use crate::SenderFailure;
 use crate::SenderState;
 use crate::Submission;
@@ -62,12 +61,12 @@ fn last_if(asks: bool, n: u16, submitted: Words, retry: Words) -> Words
     retry
 }
 
-fn deadline_after(sets: bool, queued_monotonic_ms: u64) -> Deadline
-    requires { ⌜ (sets ≡ true → «queued_monotonic_ms» + 330000 < 2 ^ 64) ⌝ }
-    ensures { λ r. ⌜ r ≡ cond sets (Deadline.At («queued_monotonic_ms» + 330000)) Deadline.Off ⌝ }
+fn deadline_after(interval: u64, sets: bool, queued_monotonic_ms: u64) -> Deadline
+    requires { ⌜ (sets ≡ true → «queued_monotonic_ms» + interval < 2 ^ 64) ⌝ }
+    ensures { λ r. ⌜ r ≡ cond sets (Deadline.At («queued_monotonic_ms» + interval)) Deadline.Off ⌝ }
 {
     if sets {
-        return Deadline::At(queued_monotonic_ms + SEGMENT_INTERVAL_MS);
+        return Deadline::At(queued_monotonic_ms + interval);
     }
     Deadline::Off
 }
@@ -203,9 +202,9 @@ impl Progress {
     }
 
     // The submission is counted, and its deadline set or not.
-    pub(crate) fn counted(self, sets: bool, queued_monotonic_ms: u64) -> Progress
-        requires { ⌜ Countable 330000 sets self «queued_monotonic_ms» ⌝ }
-        ensures { λ r. ⌜ r ≡ countedAs 330000 sets self «queued_monotonic_ms» ⌝ }
+    pub(crate) fn counted(self, interval: u64, sets: bool, queued_monotonic_ms: u64) -> Progress
+        requires { ⌜ Countable interval sets self «queued_monotonic_ms» ⌝ }
+        ensures { λ r. ⌜ r ≡ countedAs interval sets self «queued_monotonic_ms» ⌝ }
     {
         let current = self.current;
         let submitted = self.submitted;
@@ -213,7 +212,7 @@ impl Progress {
         let index = current.index();
         let submitted_now = submitted.with(index);
         let retry_now = retry.without(index);
-        let deadline = deadline_after(sets, queued_monotonic_ms);
+        let deadline = deadline_after(interval, sets, queued_monotonic_ms);
         Progress {
             state: SenderState::AwaitingAccept,
             submitted: submitted_now,

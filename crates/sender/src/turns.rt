@@ -13,9 +13,11 @@ use crate::Terms;
 use crate::Turned;
 use crate::state::both;
 use crate::state::is_prohibited;
+use link::profiles::sender_interval;
 use tsar::AcknowledgmentWindow;
 ghost use mathlib.Core.Path.{_≡_};
 ghost use Prim.Native.Nat.{_<_, _≤_};
+ghost use Rattle.link.specs.Profile.{senderInterval};
 ghost use Rattle.sender.specs.Numbers.{senderNumber};
 ghost use Rattle.sender.specs.Calls.{refuses, orTickets, counting, awaitsWord, advanceIn, cancelIn, submittedIn, acceptedIn, lowerFailedIn, reacted, lateFirst, receiveResponseIn};
 ghost use Rattle.sender.specs.Tickets.{leftBy, refusedBy, within};
@@ -99,19 +101,20 @@ impl Progress {
     // The submission is counted, and time goes on to the observed reading.
     fn count(
         self,
+        interval: u64,
         n: u16,
         window: AcknowledgmentWindow,
         queued_monotonic_ms: u64,
         observed_monotonic_ms: u64,
     ) -> Turned
         requires { ⌜ (0 < n) × (n ≤ 256) ⌝ }
-        ensures { λ r. ⌜ turned r ≡ orTickets self (counting 330000 n window self «queued_monotonic_ms» «observed_monotonic_ms») ⌝ }
+        ensures { λ r. ⌜ turned r ≡ orTickets self (counting interval n window self «queued_monotonic_ms» «observed_monotonic_ms») ⌝ }
     {
         let sets = self.sets_deadline(n, window);
-        match self.check_count(sets, queued_monotonic_ms) {
+        match self.check_count(interval, sets, queued_monotonic_ms) {
             Check::Refuse(e) => self.refused(e),
             Check::Pass => {
-                let counted = self.counted(sets, queued_monotonic_ms);
+                let counted = self.counted(interval, sets, queued_monotonic_ms);
                 self.left(counted.advanced(n, window, observed_monotonic_ms))
             }
         }
@@ -126,7 +129,7 @@ impl Progress {
         queued_monotonic_ms: u64,
         observed_monotonic_ms: u64,
     ) -> Turned
-        ensures { λ r. ⌜ turned r ≡ submittedIn 330000 own outline self number ticket «queued_monotonic_ms» «observed_monotonic_ms» ⌝ }
+        ensures { λ r. ⌜ turned r ≡ submittedIn (senderInterval (outline .profile)) own outline self number ticket «queued_monotonic_ms» «observed_monotonic_ms» ⌝ }
     {
         match self.check_submitted(
             own,
@@ -145,7 +148,14 @@ impl Progress {
                     let late = self.advanced(n, window, observed_monotonic_ms);
                     return self.refused_after(SenderError::ReceiptTime, late);
                 }
-                self.count(n, window, queued_monotonic_ms, observed_monotonic_ms)
+                let interval = sender_interval(outline.profile);
+                self.count(
+                    interval,
+                    n,
+                    window,
+                    queued_monotonic_ms,
+                    observed_monotonic_ms,
+                )
             }
         }
     }

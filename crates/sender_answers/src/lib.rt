@@ -51,6 +51,7 @@ pub fn error_code(e: SenderError) -> u32
         SenderError::ContradictoryReceipt => 12544, // 49
         SenderError::ImpossibleState => 15872, // 62
         SenderError::Tickets => 16128, // 63
+        SenderError::Profile => 16384, // 64
     }
 }
 

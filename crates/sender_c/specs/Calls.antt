@@ -15,6 +15,7 @@ use Rattle.sender.specs.declared.Terms.{Terms}
 use Rattle.sender.specs.declared.Arrival.{Arrival}
 use Rattle.sender.specs.declared.Sender.{Sender}
 use Rattle.sender.specs.declared.Offer.{Offer}
+use Rattle.sender.specs.Record.{intervalOf}
 use Rattle.sender.specs.Calls.{Answer, refused, answered, Step, advanceOf, cancelOf, submittedOf, acceptedOf, lowerFailedOf, receiveResponseOf}
 use Rattle.sender.specs.TryNew.{tryNewOf, offerOf}
 use Rattle.image.specs.Cases.{protocolOf}
@@ -73,9 +74,9 @@ peerOf kind width value = record { kind = kind; width = width; value = value }
 
 -- ---- catkhize_sender_advance, catkhize_sender_cancel, catkhize_sender_submitted, catkhize_sender_accepted
 
--- a sender is 6,130 octets and a state 4
+-- a sender is 6,131 octets and a state 4
 abbrev pub stateTests : List ℕ → List ℕ → List (Bool × Refusal)
-stateTests image answer = (ltb (length image) 6130, short) ∷ (ltb (length answer) 4, short) ∷ (not (imageOk image), misspelled) ∷ []
+stateTests image answer = (ltb (length image) 6131, short) ∷ (ltb (length answer) 4, short) ∷ (not (imageOk image), misspelled) ∷ []
 
 abbrev pub advanceStep : List ℕ → ℕ → Step
 advanceStep image reading = advanceOf (recordOf image) reading
@@ -84,7 +85,7 @@ abbrev pub cancelStep : List ℕ → ℕ → Step
 cancelStep image reading = cancelOf (recordOf image) reading
 
 abbrev pub submittedStep : List ℕ → ℕ → ℕ → ℕ → ℕ → Step
-submittedStep image number ticket queued observed = submittedOf 330000 (recordOf image) number ticket queued observed
+submittedStep image number ticket queued observed = submittedOf (intervalOf (recordOf image)) (recordOf image) number ticket queued observed
 
 abbrev pub acceptedStep : List ℕ → ℕ → ℕ → ℕ → Step
 acceptedStep image number ticket reading = acceptedOf (recordOf image) number ticket reading
@@ -93,7 +94,7 @@ acceptedStep image number ticket reading = acceptedOf (recordOf image) number ti
 
 abbrev pub failedTests : List ℕ → ℕ → List ℕ → List (Bool × Refusal)
 failedTests image failure answer =
-    (ltb (length image) 6130, short) ∷ (ltb (length answer) 4, short) ∷ (not (imageOk image), misspelled) ∷ (ltb 2 failure, unnamed) ∷ []
+    (ltb (length image) 6131, short) ∷ (ltb (length answer) 4, short) ∷ (not (imageOk image), misspelled) ∷ (ltb 2 failure, unnamed) ∷ []
 
 abbrev pub failedStep : List ℕ → ℕ → ℕ → ℕ → ℕ → ℕ → Step
 failedStep image number ticket failure cause reading = lowerFailedOf (recordOf image) number ticket (failureOf failure cause) reading
@@ -102,7 +103,7 @@ failedStep image number ticket failure cause reading = lowerFailedOf (recordOf i
 
 abbrev pub responseTests : List ℕ → ℕ → List ℕ → List ℕ → List (Bool × Refusal)
 responseTests image protocol response answer =
-    (ltb (length image) 6130, short)
+    (ltb (length image) 6131, short)
     ∷ (ltb (length response) 41, short)
     ∷ (ltb (length answer) 4, short)
     ∷ (not (imageOk image), misspelled)
@@ -122,10 +123,11 @@ responseStep image a = receiveResponseOf (recordOf image) a
 
 -- a plan is 5,958 octets
 abbrev pub newTests : List ℕ → ℕ → List ℕ → List (Bool × Refusal)
-newTests image protocol plan = (ltb (length image) 6130, short) ∷ (ltb (length plan) 5958, short) ∷ (not (planOk plan), misspelled) ∷ (ltb 2 protocol, unnamed) ∷ []
+newTests image protocol plan = (ltb (length image) 6131, short) ∷ (ltb (length plan) 5958, short) ∷ (not (planOk plan), misspelled) ∷ (ltb 2 protocol, unnamed) ∷ []
 
-abbrev pub termsOf : ℕ → ℕ → ℕ → ℕ → ℕ → ℕ → ℕ → Terms
-termsOf kind width value protocol octet version number = record { peer = peerOf kind width value; protocol = protocolOf protocol octet; version = version; number = number }
+abbrev pub termsOf : ℕ → ℕ → ℕ → ℕ → ℕ → ℕ → ℕ → ℕ → Terms
+termsOf kind width value protocol octet version profile number =
+    record { peer = peerOf kind width value; protocol = protocolOf protocol octet; version = version; profile = profile; number = number }
 
 abbrev pub newStep : Terms → List ℕ → List ℕ → ℕ → Step
 newStep t plan message reading = tryNewOf t (planOf plan) message reading
@@ -155,7 +157,7 @@ NewMet tests image step c = (c ≡ newCall tests image step) × NewSpells tests 
 
 -- a submission is 48 octets
 abbrev pub offerTests : List ℕ → List ℕ → List (Bool × Refusal)
-offerTests image answer = (ltb (length image) 6130, short) ∷ (ltb (length answer) 48, short) ∷ (not (imageOk image), misspelled) ∷ []
+offerTests image answer = (ltb (length image) 6131, short) ∷ (ltb (length answer) 48, short) ∷ (not (imageOk image), misspelled) ∷ []
 
 -- the record is only read
 abbrev pub offeredCall : List ℕ → List ℕ → Offer → Call

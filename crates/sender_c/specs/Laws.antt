@@ -32,25 +32,25 @@ apart-bools p = let z : _≡_ {A = ℕ} 0 1 = cc in omega arith
 -- ---- any call
 
 module _ (tests : List (Bool × Refusal)) (image answer : List ℕ) (done : Call) where
-  call-refused : (x : Refusal) → refusal tests ≡ some x → call (codeOf x) image answer ≡ callOf tests image answer done
+  pub call-refused : (x : Refusal) → refusal tests ≡ some x → call (codeOf x) image answer ≡ callOf tests image answer done
   call-refused x e = ap (λ (o : Option Refusal). unlessRefused o (λ n. call n image answer) done) (sym e)
 
-  call-done : refusal tests ≡ none → done ≡ callOf tests image answer done
+  pub call-done : refusal tests ≡ none → done ≡ callOf tests image answer done
   call-done e = ap (λ (o : Option Refusal). unlessRefused o (λ n. call n image answer) done) (sym e)
 
 -- ---- what code puts back
 
 module _ (image : List ℕ) (s : Step) where
-  spelled-by : 6130 ≤ length image → SenderFits (s .sender) → (i : List ℕ) → i ≡ sets image 0 (imageOf (s .sender)) → Spelled i (s .sender)
+  spelled-by : 6131 ≤ length image → SenderFits (s .sender) → (i : List ℕ) → i ≡ sets image 0 (imageOf (s .sender)) → Spelled i (s .sender)
   spelled-by room f i u = let w = put-spells sender-layout image (s .sender) i room f u in record { whole = w .1; next = w .0 }
 
   -- the sender and its state
-  pub step-put : (answer i a : List ℕ) (n : ℕ) → n ≡ answerCode (s .answer) → i ≡ sets image 0 (imageOf (s .sender)) → a ≡ sets answer 0 (stateOctets (s .answer)) → 6130 ≤ length image
+  pub step-put : (answer i a : List ℕ) (n : ℕ) → n ≡ answerCode (s .answer) → i ≡ sets image 0 (imageOf (s .sender)) → a ≡ sets answer 0 (stateOctets (s .answer)) → 6131 ≤ length image
       → SenderFits (s .sender) → (call n i a ≡ stepCall image answer s) × Spelled i (s .sender)
   step-put answer i a n q u v room f = (λ k. call (q k) (u k) (v k), spelled-by room f i u)
 
   -- a new sender
-  pub made-put : (i : List ℕ) → isRefused (s .answer) ≡ false → i ≡ sets image 0 (imageOf (s .sender)) → 6130 ≤ length image → SenderFits (s .sender)
+  pub made-put : (i : List ℕ) → isRefused (s .answer) ≡ false → i ≡ sets image 0 (imageOf (s .sender)) → 6131 ≤ length image → SenderFits (s .sender)
       → (call 0 i [] ≡ madeCall image s) × MadeSpells i s
   made-put i e u room f = (ap (λ (l : List ℕ). call 0 l []) u ∙ go (s .answer) e, λ y p. spelled-by room f i u)
     where
@@ -75,11 +75,11 @@ offer-put image answer o n a p q = λ i. call (p i) image (q i)
 
 -- ---- by the values that octets and numbers stand for
 
-pub same-new : (peer : MobileIdentity) (version number reading : ℕ) (message : List ℕ) (p p′ : HigherLayerProtocol) (q q′ : Plan) → p ≡ p′ → q ≡ q′
-    → tryNewOf (record { peer = peer; protocol = p; version = version; number = number }) q message reading
-    ≡ tryNewOf (record { peer = peer; protocol = p′; version = version; number = number }) q′ message reading
-same-new peer version number reading message p p′ q q′ a b =
-    λ i. tryNewOf (record { peer = peer; protocol = a i; version = version; number = number }) (b i) message reading
+pub same-new : (peer : MobileIdentity) (version profile number reading : ℕ) (message : List ℕ) (p p′ : HigherLayerProtocol) (q q′ : Plan) → p ≡ p′ → q ≡ q′
+    → tryNewOf (record { peer = peer; protocol = p; version = version; profile = profile; number = number }) q message reading
+    ≡ tryNewOf (record { peer = peer; protocol = p′; version = version; profile = profile; number = number }) q′ message reading
+same-new peer version profile number reading message p p′ q q′ a b =
+    λ i. tryNewOf (record { peer = peer; protocol = a i; version = version; profile = profile; number = number }) (b i) message reading
 
 pub same-response : (peer : MobileIdentity) (unparsed reading : ℕ) (s s′ : Sender) (p p′ : HigherLayerProtocol) (r r′ : Response) → s ≡ s′ → p ≡ p′ → r ≡ r′
     → receiveResponseOf s (record { peer = peer; protocol = p; response = r; unparsed = unparsed; reading = reading })

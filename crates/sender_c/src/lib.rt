@@ -55,7 +55,7 @@ fn put_answer(answer: &mut [u8], a: SenderAnswer) -> u32
 
 // What a call gave: its sender goes back into the record, also beside a refusal, and its state into the answer.
 fn put_sent(record: &mut [u8], answer: &mut [u8], given: Sent) -> u32
-    requires { ⌜ 6130 ≤ length (now «record») ⌝ }
+    requires { ⌜ 6131 ≤ length (now «record») ⌝ }
     ensures { λ r. ⌜ (call r (now («record» .exit)) (now (answer .exit)) ≡ stepCall (now («record» .entry)) (now (answer .entry)) (sent given)) × Spelled (now («record» .exit)) (given .sender) ⌝ }
 {
     let sender = given.sender;
@@ -66,7 +66,7 @@ fn put_sent(record: &mut [u8], answer: &mut [u8], given: Sent) -> u32
 
 // What try_new gave: a refusal leaves the record as it was.
 fn put_made(record: &mut [u8], given: Sent) -> u32
-    requires { ⌜ 6130 ≤ length (now «record») ⌝ }
+    requires { ⌜ 6131 ≤ length (now «record») ⌝ }
     ensures { λ r. ⌜ (call r (now («record» .exit)) [] ≡ madeCall (now («record» .entry)) (sent given)) × MadeSpells (now («record» .exit)) (sent given) ⌝ }
 {
     let sender = given.sender;
@@ -89,10 +89,11 @@ pub fn catkhize_sender_new(
     plan: &[u8],
     message: &[u8],
     version: u8,
+    profile: u8,
     number: u64,
     reading: u64,
 ) -> u32
-    ensures { λ r. ⌜ NewMet (newTests (now («record» .entry)) protocol (now (plan .entry))) (now («record» .entry)) (newStep (termsOf «peer_kind» «peer_width» «peer_value» protocol «protocol_octet» version number) (now (plan .entry)) (now (message .entry)) reading) (call r (now («record» .exit)) []) ⌝ }
+    ensures { λ r. ⌜ NewMet (newTests (now («record» .entry)) protocol (now (plan .entry))) (now («record» .entry)) (newStep (termsOf «peer_kind» «peer_width» «peer_value» protocol «protocol_octet» version profile number) (now (plan .entry)) (now (message .entry)) reading) (call r (now («record» .exit)) []) ⌝ }
 {
     if record.len() < SENDER_OCTETS {
         return SHORT;
@@ -116,7 +117,7 @@ pub fn catkhize_sender_new(
     let p = read.plan;
     put_made(
         record,
-        Sender::try_new(peer, service, p, message, version, number, reading),
+        Sender::try_new(peer, service, p, message, version, profile, number, reading),
     )
 }
 

@@ -1,4 +1,4 @@
--- The first 173 octets of a sender: layout version (the number 1), terms (21), progress (151). Assumes nothing.
+-- The first 174 octets of a sender: layout version (the number 2), terms (22), progress (151). Assumes nothing.
 use mathlib.Core.Path.{_≡_, refl, sym, ap, ap₂, _∙_}
 use mathlib.Core.Bool.{Bool}
 use mathlib.Core.List.{List, [], _∷_, _++_, append-assoc}
@@ -24,41 +24,43 @@ use Rattle.sender_image.specs.declared.Head.{Head}
 abbrev Fit : ℕ → Type 0
 Fit x = x < 18446744073709551616
 
--- ---- terms: peer, protocol, version, sender number
+-- ---- terms: peer, protocol, version, profile, sender number
 
 unfoldable pub termsImage : Terms → List ℕ
-termsImage t = peerImage (t .peer) ++ (protocolImage (t .protocol) ++ (t .version ∷ spell 8 (t .number)))
+termsImage t = peerImage (t .peer) ++ (protocolImage (t .protocol) ++ (t .version ∷ t .profile ∷ spell 8 (t .number)))
 
 unfoldable pub termsOf : List ℕ → Terms
-termsOf l = record { peer = peerOf l; protocol = protocolIn (drop 10 l); version = getD l 12 0; number = numberOf 8 (drop 13 l) }
+termsOf l = record { peer = peerOf l; protocol = protocolIn (drop 10 l); version = getD l 12 0; profile = getD l 13 0; number = numberOf 8 (drop 14 l) }
 
 pub record TermsFit (t : Terms) : Type 0 where
   pub peer : PeerFits (t .peer)
   pub number : t .number < 18446744073709551616
 
-abbrev readTerms : List ℕ → MobileIdentity × (HigherLayerProtocol × (ℕ × ℕ))
-readTerms = readBoth peerOf 10 (readBoth protocolIn 2 (readBoth readOctet 1 (numberOf 8)))
+abbrev readTerms : List ℕ → MobileIdentity × (HigherLayerProtocol × (ℕ × (ℕ × ℕ)))
+readTerms = readBoth peerOf 10 (readBoth protocolIn 2 (readBoth readOctet 1 (readBoth readOctet 1 (numberOf 8))))
 
-terms-parts : Layout (spellBoth peerImage (spellBoth protocolImage (spellBoth spellOctet (spell 8)))) readTerms 21 (λ x. PeerFits (x .0) × (AnyProtocol (x .1 .0) × (AnyOctet (x .1 .1 .0) × Fit (x .1 .1 .1))))
-terms-parts = both-layout peer-layout (both-layout protocol-layout (both-layout octet-layout (number-layout 8)))
+terms-parts : Layout (spellBoth peerImage (spellBoth protocolImage (spellBoth spellOctet (spellBoth spellOctet (spell 8))))) readTerms 22 (λ x. PeerFits (x .0) × (AnyProtocol (x .1 .0) × (AnyOctet (x .1 .1 .0) × (AnyOctet (x .1 .1 .1 .0) × Fit (x .1 .1 .1 .1)))))
+terms-parts = both-layout peer-layout (both-layout protocol-layout (both-layout octet-layout (both-layout octet-layout (number-layout 8))))
 
-terms-reads : (l : List ℕ) → termsOf l ≡ record { peer = readTerms l .0; protocol = readTerms l .1 .0; version = readTerms l .1 .1 .0; number = readTerms l .1 .1 .1 }
+terms-reads : (l : List ℕ) → termsOf l ≡ record { peer = readTerms l .0; protocol = readTerms l .1 .0; version = readTerms l .1 .1 .0; profile = readTerms l .1 .1 .1 .0; number = readTerms l .1 .1 .1 .1 }
 unfolding termsOf
 terms-reads l =
     let a : drop 12 l ≡ drop 2 (drop 10 l) = sym (drop-drop 2 10 l) in
     let b : drop 13 l ≡ drop 1 (drop 2 (drop 10 l)) = sym (drop-drop 1 12 l) ∙ ap (drop 1) a in
+    let c : drop 14 l ≡ drop 1 (drop 1 (drop 2 (drop 10 l))) = sym (drop-drop 1 13 l) ∙ ap (drop 1) b in
     let e : getD l 12 0 ≡ getD (drop 2 (drop 10 l)) 0 0 = sym (getD-drop 12 l 0 0) ∙ ap (λ (m : List ℕ). getD m 0 0) a in
-    λ i. record { peer = peerOf l; protocol = protocolIn (drop 10 l); version = e i; number = numberOf 8 (b i) }
+    let f : getD l 13 0 ≡ getD (drop 1 (drop 2 (drop 10 l))) 0 0 = sym (getD-drop 13 l 0 0) ∙ ap (λ (m : List ℕ). getD m 0 0) b in
+    λ i. record { peer = peerOf l; protocol = protocolIn (drop 10 l); version = e i; profile = f i; number = numberOf 8 (c i) }
 
-terms-read-wide : (l : List ℕ) → length (termsImage (termsOf l)) ≡ 21
+terms-read-wide : (l : List ℕ) → length (termsImage (termsOf l)) ≡ 22
 unfolding termsImage
 terms-read-wide l = ap (λ (t : Terms). length (termsImage t)) (terms-reads l) ∙ terms-parts .reads-wide l
 
-pub terms-layout : Layout termsImage termsOf 21 TermsFit
+pub terms-layout : Layout termsImage termsOf 22 TermsFit
 unfolding termsImage
 terms-layout =
-    as-layout terms-parts (λ x. record { peer = x .0; protocol = x .1 .0; version = x .1 .1 .0; number = x .1 .1 .1 }) (λ t. (t .peer, (t .protocol, (t .version, t .number))))
-    (λ t. refl) termsImage termsOf TermsFit (λ t. refl) terms-reads (λ t f. (f .peer, (tt, (tt, f .number)))) terms-read-wide
+    as-layout terms-parts (λ x. record { peer = x .0; protocol = x .1 .0; version = x .1 .1 .0; profile = x .1 .1 .1 .0; number = x .1 .1 .1 .1 }) (λ t. (t .peer, (t .protocol, (t .version, (t .profile, t .number)))))
+    (λ t. refl) termsImage termsOf TermsFit (λ t. refl) terms-reads (λ t f. (f .peer, (tt, (tt, (tt, f .number))))) terms-read-wide
 
 -- ---- progress: state, submission, last ticket; three times marks; deadline, last reading, submissions
 
@@ -192,51 +194,51 @@ progress-layout =
 -- ---- the head
 
 unfoldable pub headImage : Head → List ℕ
-headImage h = 1 ∷ (termsImage (h .terms) ++ progressImage (h .progress))
+headImage h = 2 ∷ (termsImage (h .terms) ++ progressImage (h .progress))
 
 unfoldable pub headOf : List ℕ → Head
-headOf l = record { terms = termsOf (drop 1 l); progress = progressOf (drop 22 l) }
+headOf l = record { terms = termsOf (drop 1 l); progress = progressOf (drop 23 l) }
 
--- whether 173 octets spell a head
+-- whether 174 octets spell a head
 abbrev pub headOk : List ℕ → Bool
-headOk l = spells headImage headOf 173 l
+headOk l = spells headImage headOf 174 l
 
 pub record HeadFits (h : Head) : Type 0 where
   pub terms : TermsFit (h .terms)
   pub progress : ProgressFits (h .progress)
 
 abbrev readHead : List ℕ → ℕ × (Terms × Progress)
-readHead = readBoth readOctet 1 (readBoth termsOf 21 progressOf)
+readHead = readBoth readOctet 1 (readBoth termsOf 22 progressOf)
 
-head-parts : Layout (spellBoth spellOctet (spellBoth termsImage progressImage)) readHead 173 (λ x. AnyOctet (x .0) × (TermsFit (x .1 .0) × ProgressFits (x .1 .1)))
+head-parts : Layout (spellBoth spellOctet (spellBoth termsImage progressImage)) readHead 174 (λ x. AnyOctet (x .0) × (TermsFit (x .1 .0) × ProgressFits (x .1 .1)))
 head-parts = both-layout octet-layout (both-layout terms-layout progress-layout)
 
 head-reads : (l : List ℕ) → headOf l ≡ record { terms = readHead l .1 .0; progress = readHead l .1 .1 }
 unfolding headOf
 head-reads l = simp drop-drop
 
-head-read-wide : (l : List ℕ) → length (headImage (headOf l)) ≡ 173
+head-read-wide : (l : List ℕ) → length (headImage (headOf l)) ≡ 174
 unfolding headImage
 head-read-wide l = ap (λ (h : Head). length (headImage h)) (head-reads l) ∙ head-parts .reads-wide l
 
-pub head-layout : Layout headImage headOf 173 HeadFits
+pub head-layout : Layout headImage headOf 174 HeadFits
 unfolding headImage
 head-layout =
-    as-layout head-parts (λ x. record { terms = x .1 .0; progress = x .1 .1 }) (λ h. (1, (h .terms, h .progress))) (λ h. refl) headImage headOf HeadFits (λ h. refl) head-reads
+    as-layout head-parts (λ x. record { terms = x .1 .0; progress = x .1 .1 }) (λ h. (2, (h .terms, h .progress))) (λ h. refl) headImage headOf HeadFits (λ h. refl) head-reads
     (λ h f. (tt, (f .terms, f .progress))) head-read-wide
 
 -- ---- as code writes it, part by part
 
 module _ (l : List ℕ) (at : ℕ) (t : Terms) (p x y z : List ℕ) where
-  pub terms-put : p ≡ protocolImage (t .protocol) → x ≡ sets l at (peerImage (t .peer)) → y ≡ sets x (at + 10) (getD p 0 0 ∷ getD p 1 0 ∷ t .version ∷ [])
-      → z ≡ sets y (at + 13) (spell 8 (t .number)) → z ≡ sets l at (termsImage t)
+  pub terms-put : p ≡ protocolImage (t .protocol) → x ≡ sets l at (peerImage (t .peer)) → y ≡ sets x (at + 10) (getD p 0 0 ∷ getD p 1 0 ∷ t .version ∷ t .profile ∷ [])
+      → z ≡ sets y (at + 14) (spell 8 (t .number)) → z ≡ sets l at (termsImage t)
   unfolding termsImage peerImage protocolImage spell
   terms-put e p q r =
       let a : List ℕ = peerImage (t .peer) in
-      let b : List ℕ = protocolImage (t .protocol) ++ (t .version ∷ []) in
-      let q′ : y ≡ sets x (at + 10) b = q ∙ ap (λ (m : List ℕ). sets x (at + 10) (getD m 0 0 ∷ getD m 1 0 ∷ t .version ∷ [])) e in
+      let b : List ℕ = protocolImage (t .protocol) ++ (t .version ∷ t .profile ∷ []) in
+      let q′ : y ≡ sets x (at + 10) b = q ∙ ap (λ (m : List ℕ). sets x (at + 10) (getD m 0 0 ∷ getD m 1 0 ∷ t .version ∷ t .profile ∷ [])) e in
       let two : y ≡ sets l at (a ++ b) = put-next l at a b x y (at + 10) 10 p refl refl q′ in
-      put-next l at (a ++ b) (spell 8 (t .number)) y z (at + 13) 13 two refl refl r
+      put-next l at (a ++ b) (spell 8 (t .number)) y z (at + 14) 14 two refl refl r
 
 module _ (l : List ℕ) (at : ℕ) (p : Progress) where
   pub standing-put : (x y z : List ℕ) → x ≡ sets l at (stateImage (p .state)) → y ≡ sets x (at + 4) (currentImage (p .current)) → z ≡ sets y (at + 22) (spell 8 (p .«last_ticket»))
@@ -285,13 +287,13 @@ module _ (l : List ℕ) (at : ℕ) (p : Progress) where
       put-next l at (s ++ m) (timesImage p) y z (at + 126) 126 two n refl c ∙ ap (sets l at) (append-assoc s m (timesImage p))
 
 module _ (l : List ℕ) (h : Head) (x y z : List ℕ) where
-  pub head-put : TermsFit (h .terms) → x ≡ sets l 0 (1 ∷ []) → y ≡ sets x 1 (termsImage (h .terms)) → z ≡ sets y 22 (progressImage (h .progress)) → z ≡ sets l 0 (headImage h)
+  pub head-put : TermsFit (h .terms) → x ≡ sets l 0 (2 ∷ []) → y ≡ sets x 1 (termsImage (h .terms)) → z ≡ sets y 23 (progressImage (h .progress)) → z ≡ sets l 0 (headImage h)
   unfolding headImage
   head-put f a b c =
       let m : List ℕ = termsImage (h .terms) in
-      let n : length (1 ∷ m) ≡ 22 = ap suc (terms-layout .wide (h .terms) f) in
-      let two : y ≡ sets l 0 (1 ∷ m) = put-next l 0 (1 ∷ []) m x y 1 1 a refl refl b in
-      put-next l 0 (1 ∷ m) (progressImage (h .progress)) y z 22 22 two n refl c
+      let n : length (2 ∷ m) ≡ 23 = ap suc (terms-layout .wide (h .terms) f) in
+      let two : y ≡ sets l 0 (2 ∷ m) = put-next l 0 (2 ∷ []) m x y 1 1 a refl refl b in
+      put-next l 0 (2 ∷ m) (progressImage (h .progress)) y z 23 23 two n refl c
 
 -- ---- and reads it, part by part
 

@@ -1,4 +1,4 @@
--- The layout SENDER, 6,130 octets: head (173), the plan without its layout version (5,957). Any record whose numbers fit their types is read
+-- The layout SENDER, 6,131 octets: head (174), the plan without its layout version (5,957). Any record whose numbers fit their types is read
 -- back as it was, impossible ones too, and what is read and put back changes no octet (sender-layout, with the laws of every layout).
 -- Assumes nothing.
 use mathlib.Core.Path.{_≡_, refl, sym, ap, _∙_}
@@ -25,11 +25,11 @@ unfoldable pub imageOf : Sender → List ℕ
 imageOf s = headImage (headIn s) ++ bodyImage (s .plan)
 
 unfoldable pub recordOf : List ℕ → Sender
-recordOf l = senderOf (headOf l) (bodyOf (drop 173 l))
+recordOf l = senderOf (headOf l) (bodyOf (drop 174 l))
 
--- whether 6,130 octets spell a sender
+-- whether 6,131 octets spell a sender
 abbrev pub imageOk : List ℕ → Bool
-imageOk l = spells imageOf recordOf 6130 l
+imageOk l = spells imageOf recordOf 6131 l
 
 -- numbers fit their types, and there are 256 heads of a frozen plan
 pub record SenderFits (s : Sender) : Type 0 where
@@ -38,10 +38,10 @@ pub record SenderFits (s : Sender) : Type 0 where
 
 -- ---- its laws
 
-parts-layout : Layout (spellBoth headImage bodyImage) (readBoth headOf 173 bodyOf) 6130 (λ x. HeadFits (x .0) × PlanFits (x .1))
+parts-layout : Layout (spellBoth headImage bodyImage) (readBoth headOf 174 bodyOf) 6131 (λ x. HeadFits (x .0) × PlanFits (x .1))
 parts-layout = both-layout head-layout body-layout
 
-pub sender-layout : Layout imageOf recordOf 6130 SenderFits
+pub sender-layout : Layout imageOf recordOf 6131 SenderFits
 unfolding imageOf recordOf
 sender-layout =
     as-layout parts-layout (λ x. senderOf (x .0) (x .1)) (λ s. (headIn s, s .plan)) (λ s. refl) imageOf recordOf SenderFits (λ s. refl) (λ l. refl) (λ s f. (f .head, f .plan))
@@ -58,18 +58,18 @@ pub image-ok : (s : Sender) → SenderFits s → imageOk (imageOf s) ≡ true
 image-ok s f = ap imageOk (sym (append-nil (imageOf s))) ∙ spelled-ok sender-layout s f []
 
 -- a record that is read off octets that pass and put back changes none of them
-pub image-kept : (l : List ℕ) → 6130 ≤ length l → imageOk l ≡ true → sets l 0 (imageOf (recordOf l)) ≡ l
+pub image-kept : (l : List ℕ) → 6131 ≤ length l → imageOk l ≡ true → sets l 0 (imageOf (recordOf l)) ≡ l
 image-kept l h k = put-back sender-layout l h k
 
 -- ---- as code tests and writes it
 
 -- the test, part by part
-pub image-spells : (l : List ℕ) → 6130 ≤ length l → imageOk l ≡ (headOk l && bodyOk (drop 173 l))
+pub image-spells : (l : List ℕ) → 6131 ≤ length l → imageOk l ≡ (headOk l && bodyOk (drop 174 l))
 unfolding imageOf recordOf spells
 image-spells l h = both-spells head-layout body-layout l (omega arith)
 
 -- written part by part
 module _ (l : List ℕ) (s : Sender) (x y : List ℕ) where
-  pub image-put : SenderFits s → x ≡ sets l 0 (headImage (headIn s)) → y ≡ sets x 173 (bodyImage (s .plan)) → y ≡ sets l 0 (imageOf s)
+  pub image-put : SenderFits s → x ≡ sets l 0 (headImage (headIn s)) → y ≡ sets x 174 (bodyImage (s .plan)) → y ≡ sets l 0 (imageOf s)
   unfolding imageOf
-  image-put f a b = put-next l 0 (headImage (headIn s)) (bodyImage (s .plan)) x y 173 173 a (head-layout .wide (headIn s) (f .head)) refl b
+  image-put f a b = put-next l 0 (headImage (headIn s)) (bodyImage (s .plan)) x y 174 174 a (head-layout .wide (headIn s) (f .head)) refl b

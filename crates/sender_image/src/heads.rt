@@ -25,7 +25,7 @@ ghost use lib.Seq.{sets};
 ghost use Rattle.sender_image.specs.Heads.{termsImage, termsOf, TermsFit, standingImage, StandingFits, markedImage, MarkedFit, timesImage, TimesFit, progressImage, progressOf, ProgressFits, headImage, headOf, headOk, HeadFits};
 
 pub fn put_terms(dst: &mut [u8], at: usize, t: Terms)
-    requires { ⌜ at + 21 ≤ length (now dst) ⌝ }
+    requires { ⌜ at + 22 ≤ length (now dst) ⌝ }
     ensures { λ _. ⌜ (now (dst .exit) ≡ sets (now (dst .entry)) at (termsImage t)) × TermsFit t ⌝ }
 {
     let peer = t.peer;
@@ -33,9 +33,9 @@ pub fn put_terms(dst: &mut [u8], at: usize, t: Terms)
     let a = peer_octets(peer);
     octets::put(dst, at, &a);
     let p = protocol_octets(protocol);
-    let b = [p[0], p[1], t.version];
+    let b = [p[0], p[1], t.version, t.profile];
     octets::put(dst, at + 10, &b);
-    put64(dst, at + 13, t.number);
+    put64(dst, at + 14, t.number);
 }
 
 // State, submission and last ticket.
@@ -86,7 +86,7 @@ pub fn put_progress(dst: &mut [u8], at: usize, p: Progress)
 }
 
 pub fn put_head(dst: &mut [u8], h: Head)
-    requires { ⌜ 173 ≤ length (now dst) ⌝ }
+    requires { ⌜ 174 ≤ length (now dst) ⌝ }
     ensures { λ _. ⌜ (now (dst .exit) ≡ sets (now (dst .entry)) 0 (headImage h)) × HeadFits h ⌝ }
 {
     let terms = h.terms;
@@ -94,20 +94,21 @@ pub fn put_head(dst: &mut [u8], h: Head)
     let version = [LAYOUT_VERSION];
     octets::put(dst, 0, &version);
     put_terms(dst, 1, terms);
-    put_progress(dst, 22, progress);
+    put_progress(dst, 23, progress);
 }
 
 pub fn read_terms(l: &[u8]) -> Terms
-    requires { ⌜ 21 ≤ length (now l) ⌝ }
+    requires { ⌜ 22 ≤ length (now l) ⌝ }
     ensures { λ r. ⌜ r ≡ termsOf (now (l .entry)) ⌝ }
 {
     let peer = get_peer(l);
     let protocol = read_protocol(&l[10..]);
-    let number = number64(l, 13);
+    let number = number64(l, 14);
     Terms {
         peer,
         protocol,
         version: l[12],
+        profile: l[13],
         number,
     }
 }
@@ -139,22 +140,22 @@ pub fn read_progress(l: &[u8]) -> Progress
 }
 
 pub fn read_head(l: &[u8]) -> Head
-    requires { ⌜ 173 ≤ length (now l) ⌝ }
+    requires { ⌜ 174 ≤ length (now l) ⌝ }
     ensures { λ r. ⌜ r ≡ headOf (now (l .entry)) ⌝ }
 {
     let terms = read_terms(&l[1..]);
-    let progress = read_progress(&l[22..]);
+    let progress = read_progress(&l[23..]);
     Head { terms, progress }
 }
 
 // The same, and whether the octets are those of the head.
 pub fn get_head(l: &[u8]) -> HeadRead
-    requires { ⌜ 173 ≤ length (now l) ⌝ }
+    requires { ⌜ 174 ≤ length (now l) ⌝ }
     ensures { λ r. ⌜ (r .ok ≡ headOk (now (l .entry))) × (r .head ≡ headOf (now (l .entry))) ⌝ }
 {
     let head = read_head(l);
-    let mut again = [0u8; 173];
+    let mut again = [0u8; 174];
     put_head(&mut again, head);
-    let ok = octets::same(&again, &l[0..173]);
+    let ok = octets::same(&again, &l[0..174]);
     HeadRead { ok, head }
 }

@@ -1,4 +1,4 @@
-// The layout SENDER: a sender's record in 6,130 octets, put and got with the strict test. Internal to the exports, as the crate image is.
+// The layout SENDER: a sender's record in 6,131 octets, put and got with the strict test. Internal to the exports, as the crate image is.
 use crate::heads::get_head;
 use crate::heads::put_head;
 use plan_image::get_body;
@@ -17,15 +17,15 @@ pub mod heads;
 pub mod parts;
 pub mod states;
 
-pub const SENDER_OCTETS: usize = 6130;
+pub const SENDER_OCTETS: usize = 6131;
 
 pub const STATE_OCTETS: usize = 4;
 
 // The number that a sender's octets begin with.
-const LAYOUT_VERSION: u8 = 1;
+const LAYOUT_VERSION: u8 = 2;
 
 // Where the plan begins.
-const PLAN: usize = 173;
+const PLAN: usize = 174;
 
 // All of a sender but the plan.
 pub struct Head {
@@ -52,7 +52,7 @@ fn both(a: bool, b: bool) -> bool
 
 // A sender at the front of octets, which then spell it.
 pub fn put_sender(dst: &mut [u8], s: Sender)
-    requires { ⌜ 6130 ≤ length (now dst) ⌝ }
+    requires { ⌜ 6131 ≤ length (now dst) ⌝ }
     ensures { λ _. ⌜ (now (dst .exit) ≡ sets (now (dst .entry)) 0 (imageOf s)) × SenderFits s ⌝ }
 {
     let terms = s.terms;
@@ -64,7 +64,7 @@ pub fn put_sender(dst: &mut [u8], s: Sender)
 
 // The sender that octets spell, and whether they are the octets of that.
 pub fn get_sender(l: &[u8]) -> SenderRead
-    requires { ⌜ 6130 ≤ length (now l) ⌝ }
+    requires { ⌜ 6131 ≤ length (now l) ⌝ }
     ensures { λ r. ⌜ (r .ok ≡ imageOk (now (l .entry))) × (r .sender ≡ recordOf (now (l .entry))) ⌝ }
 {
     let read = get_head(l);

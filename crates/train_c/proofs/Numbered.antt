@@ -19,7 +19,7 @@ use Rattle.tsar.specs.declared.decode.ParamsRead.the-variants as done
 use Rattle.link.specs.declared.MobileIdentity.{MobileIdentity}
 use Rattle.link.specs.declared.HigherLayerProtocol.{HigherLayerProtocol}
 use Rattle.receiver.specs.declared.Receiver.{Receiver}
-use Rattle.receiver.specs.Record.{late}
+use Rattle.receiver.specs.Record.{intervalOf, late}
 use Rattle.receiver.specs.Answers.{Answer, refused, answered, Step}
 use Rattle.receiver.specs.Receive.{Arrival, Outcome, fails, repeats, closes, keeps, finishes, slotRules, settle, lateOr, receiveRows, receiveAfter, receiveOf}
 use Rattle.codec_c.specs.Codes.{codeOf}
@@ -133,7 +133,7 @@ receive-1 interval r a store out =
 
 module _ (peer : MobileIdentity) (protocol : HigherLayerProtocol) (reading : ℕ) where
   step-1 : (d : Decoded) (r : Receiver) (store output : List ℕ) → Read d → Given (decodedStep peer protocol reading d r store output .answer)
-  step-1 (decoded s unparsed) r store output h = receive-1 300000 r (arrivalOf peer protocol reading s unparsed) store output
+  step-1 (decoded s unparsed) r store output h = receive-1 (intervalOf r) r (arrivalOf peer protocol reading s unparsed) store output
   step-1 (unread n) r store output h = h
 
   -- the code of a refusal

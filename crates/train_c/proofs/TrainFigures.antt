@@ -8,6 +8,7 @@ use Rattle.link.specs.declared.MobileIdentity.{MobileIdentity}
 use Rattle.link.specs.declared.HigherLayerProtocol.{HigherLayerProtocol}
 use Rattle.receiver.specs.declared.Receiver.{Receiver}
 use Rattle.receiver.specs.declared.Reported.{Reported}
+use Rattle.receiver.specs.Record.{intervalOf}
 use Rattle.receiver.specs.Answers.{Answer, refused, answered, Step}
 use Rattle.receiver.specs.Figured.{Carried, CarriedIn, OwnFigures, receive-own}
 use Rattle.train_c.specs.Walk.{Train, train, startOf, stops, after, arrivalOf, decodedStep, trainStep, trainOf}
@@ -22,7 +23,7 @@ after-own go t s keeps h (answered x m) k =
 
 module _ (peer : MobileIdentity) (protocol : HigherLayerProtocol) (reading : ℕ) where
   decoded-own : (d : Decoded) (r : Receiver) (store output : List ℕ) → CarriedIn OwnFigures (decodedStep peer protocol reading d r store output .answer)
-  decoded-own (decoded s unparsed) r store output = receive-own 300000 r (arrivalOf peer protocol reading s unparsed) store output
+  decoded-own (decoded s unparsed) r store output = receive-own (intervalOf r) r (arrivalOf peer protocol reading s unparsed) store output
   decoded-own (unread n) r store output = tt
 
   step-own : (r : Receiver) (octets store output : List ℕ) → CarriedIn OwnFigures (trainStep peer protocol reading r octets store output .answer)

@@ -23,6 +23,7 @@ use Rattle.link.specs.declared.HigherLayerProtocol.{HigherLayerProtocol}
 use Rattle.receiver.specs.declared.Receiver.{Receiver}
 use Rattle.receiver.specs.declared.Reported.{Reported}
 use Rattle.receiver.specs.Answers.{Answer, refused, answered, Step, refuses}
+use Rattle.receiver.specs.Record.{intervalOf}
 use Rattle.receiver.specs.Receive.{receiveOf}
 use Rattle.codec_c.specs.Codes.{codeOf, unlessRefused}
 use Rattle.image.specs.Spelling.{put-spells, put-next}
@@ -72,10 +73,10 @@ module _ (peer : MobileIdentity) (protocol : HigherLayerProtocol) (reading : ℕ
 
   -- it is decoded, and received with its data
   pub step-decoded : (a : DecodeAnswer) (d : DecodedSegment) (l : List ℕ) → a ≡ read.Decoded d → toldBy a ≡ toldOf (decodeOf (r .terms .version) octets) → l ≡ take (d .head .«segment_data_length») (drop 3 octets)
-      → receiveOf 300000 r (record { peer = peer; protocol = protocol; segment = d .head .segment; octets = l; unparsed = d .«unparsed_octets»; reading = reading }) store output
+      → receiveOf (intervalOf r) r (record { peer = peer; protocol = protocol; segment = d .head .segment; octets = l; unparsed = d .«unparsed_octets»; reading = reading }) store output
       ≡ trainStep peer protocol reading r octets store output
   step-decoded a d l p q e =
-      ap (λ (x : List ℕ). receiveOf 300000 r (record { peer = peer; protocol = protocol; segment = d .head .segment; octets = x; unparsed = d .«unparsed_octets»; reading = reading }) store output) e
+      ap (λ (x : List ℕ). receiveOf (intervalOf r) r (record { peer = peer; protocol = protocol; segment = d .head .segment; octets = x; unparsed = d .«unparsed_octets»; reading = reading }) store output) e
       ∙ step-by (decodedBy octets (read.Decoded d)) (ap (decodedBy octets) (sym p) ∙ told-whole (r .terms .version) octets a q)
 
 -- ---- one segment after another
@@ -168,7 +169,7 @@ module _ (a : Asked) where
       ∙ ap₂ (λ (x : Receiver) (y : HigherLayerProtocol). trainOf (a .peer) y (a .reading) (segmentsOf (length (a .lengths) / 2) (a .lengths) (a .octets)) (startOf x (a .store) (a .output))) u v
 
   -- then record and answer were written
-  pub train-done : (t : Train) (image answer : List ℕ) → refusal (trainTests a) ≡ none → 3930 ≤ length (a .image) → t ≡ trainAsked a → ReceiverFits (t .receiver)
+  pub train-done : (t : Train) (image answer : List ℕ) → refusal (trainTests a) ≡ none → 3931 ≤ length (a .image) → t ≡ trainAsked a → ReceiverFits (t .receiver)
       → image ≡ sets (a .image) 0 (imageOf (t .receiver)) → answer ≡ sets (a .answer) 0 (trainImage (t .received) (t .response) (t .message))
       → Met a (call (t .code) image (t .store) (t .output) answer)
   unfolding trainCall

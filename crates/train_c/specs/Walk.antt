@@ -11,7 +11,7 @@ use Rattle.link.specs.declared.MobileIdentity.{MobileIdentity}
 use Rattle.link.specs.declared.HigherLayerProtocol.{HigherLayerProtocol}
 use Rattle.receiver.specs.declared.Receiver.{Receiver}
 use Rattle.receiver.specs.declared.Reported.{Reported}
-use Rattle.receiver.specs.Record.{taking}
+use Rattle.receiver.specs.Record.{intervalOf, taking}
 use Rattle.receiver.specs.Answers.{Answer, refused, answered, Step, refuses}
 use Rattle.receiver.specs.Receive.{Arrival, receiveOf}
 use Rattle.receiver.specs.Says.{replySays, messageSays}
@@ -75,7 +75,7 @@ module _ (peer : MobileIdentity) (protocol : HigherLayerProtocol) (reading : ℕ
       }
 
   abbrev pub decodedStep : Decoded → Receiver → List ℕ → List ℕ → Step
-  decodedStep (decoded s unparsed) r store output = receiveOf 300000 r (arrivalOf s unparsed) store output
+  decodedStep (decoded s unparsed) r store output = receiveOf (intervalOf r) r (arrivalOf s unparsed) store output
   decodedStep (unread n) r store output = refuses n r store output
 
   -- one segment, by its octets

@@ -28,7 +28,7 @@ use Rattle.dialect.specs.declared.Dialect.{Dialect}
 use Rattle.dialect.specs.Convert.{otherDialect, converted, dialectRows, convertRefusal, convertOf}
 use Rattle.receiver.specs.declared.Receiver.{Receiver}
 use Rattle.receiver.specs.declared.Terms.{Terms as ReceiverTerms}
-use Rattle.receiver.specs.Record.{late, due}
+use Rattle.receiver.specs.Record.{intervalOf, late, due}
 use Rattle.receiver.specs.Answers.{Answer, refused, answered}
 use Rattle.receiver.specs.Receive.{Arrival, Outcome, fails, repeats, closes, keeps, finishes, receiveRows, slotRules, settle, lateOr, receiveAfter, receiveOf}
 use Rattle.receiver.specs.Advance.{tryNewRows, madeAfter, tryNewOf, clockRows, fires, advanceAfter, advanceOf, cancelRows, cancelAfter, cancelOf, releaseRows, releaseOf}
@@ -218,7 +218,7 @@ module _ (peer : MobileIdentity) (protocol : HigherLayerProtocol) (reading : ℕ
   step-fine r octets store output = go (segmentOf (r .terms .version) octets) (decode-fine (r .terms .version) octets)
     where
       go : (d : Decoded) → fineDecoded d ≡ true → fineAnswer (decodedStep peer protocol reading d r store output .answer) ≡ true
-      go (decoded s unparsed) e = receive-fine 300000 r (arrivalOf peer protocol reading s unparsed) store output
+      go (decoded s unparsed) e = receive-fine (intervalOf r) r (arrivalOf peer protocol reading s unparsed) store output
       go (unread x) e = e
 
   after-other : (go : Train → Train) → ((t : Train) → other (t .code) ≡ true → other (go t .code) ≡ true) → (t : Train) (a : Answer) (r : Receiver) (store output : List ℕ)

@@ -132,14 +132,14 @@ segment-behaves others plan n index answer answer′ e =
     by-contract planOk plan tests (λ (c : PartCall). c .code) (λ c. plan) (λ m. partCall m answer) (segmentGives (planSegment (planOf plan) index) answer) (λ m. refl) (λ m. refl)
     (partCall n answer′) e others refl reads (λ q p. both _ _ (twice p) refl) (segment-other (planSegment (planOf plan) index) answer) reads
 
-new-behaves : (others : Bool) (plan : List ℕ) (n : ℕ) (image : List ℕ) (kind width value protocol octet : ℕ) (message : List ℕ) (version number reading : ℕ) (image′ : List ℕ)
+new-behaves : (others : Bool) (plan : List ℕ) (n : ℕ) (image : List ℕ) (kind width value protocol octet : ℕ) (message : List ℕ) (version profile number reading : ℕ) (image′ : List ℕ)
     → sender.call n image′ []
-    ≡ sender.newCall (sender.newTests image protocol plan) image (sender.newStep (sender.termsOf kind width value protocol octet version number) plan message reading)
+    ≡ sender.newCall (sender.newTests image protocol plan) image (sender.newStep (sender.termsOf kind width value protocol octet version profile number) plan message reading)
     → Behaves planOk others plan n plan
 unfolding sender.newCall
-new-behaves others plan n image kind width value protocol octet message version number reading image′ e =
+new-behaves others plan n image kind width value protocol octet message version profile number reading image′ e =
     let tests : List (Bool × Refusal) = sender.newTests image protocol plan in
-    let terms = sender.termsOf kind width value protocol octet version number in
+    let terms = sender.termsOf kind width value protocol octet version profile number in
     let step = sender.newStep terms plan message reading in
     let reads : refusal tests ≡ none → planOk plan ≡ true = λ h. not-false-is (planOk plan) (refusal-none tests h 2) in
     by-contract planOk plan tests (λ (c : sender.Call). c .code) (λ c. plan) (λ m. sender.call m image []) (sender.madeCall image step) (λ m. refl) (λ m. refl)
@@ -148,9 +148,9 @@ new-behaves others plan n image kind width value protocol octet message version 
 behaves : (others : Bool) (before : List ℕ) (n : ℕ) (after : List ℕ) → PlanRead others before n after → Behaves planOk others before n after
 behaves others before n after (segment index answer answer′ p e) =
     subst (λ (l : List ℕ). Behaves planOk others before n l) (sym p) (segment-behaves others before n index answer answer′ e)
-behaves others before n after (sender-new image kind width value protocol octet message version number reading image′ p m) =
+behaves others before n after (sender-new image kind width value protocol octet message version profile number reading image′ p m) =
     subst (λ (l : List ℕ). Behaves planOk others before n l) (sym p)
-    (new-behaves others before n image kind width value protocol octet message version number reading image′ (m .0))
+    (new-behaves others before n image kind width value protocol octet message version profile number reading image′ (m .0))
 
 pub plan-next : NeverMisspelled PlanMade PlanRead
 plan-next = never-misspelled PlanMade PlanRead planOk making behaves

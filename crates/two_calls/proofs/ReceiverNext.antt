@@ -8,6 +8,7 @@ use lib.ListN.{length}
 use Rattle.tsar.specs.Rows.{Refusal, refusal, refusal-none}
 use Rattle.receiver.specs.declared.Receiver.{Receiver}
 use Rattle.receiver.specs.declared.Terms.{Terms}
+use Rattle.receiver.specs.Record.{intervalOf}
 use Rattle.receiver.specs.Answers.{Answer, Step}
 use Rattle.receiver.specs.Receive.{Arrival, receiveOf}
 use Rattle.receiver.specs.Advance.{Made, tryNewOf, advanceOf, cancelOf, releaseOf}
@@ -38,10 +39,10 @@ made-left : (image : List ℕ) (o : Option Refusal) (r : Receiver) → (madeCall
 made-left image none r z = absurd (z refl)
 made-left image (some x) r z = refl
 
-new-done : (before : List ℕ) (kind width value protocol octet transaction version maximum reading : ℕ) (image : List ℕ)
-    → call 0 image [] [] [] ≡ newCall before kind width value protocol octet transaction version maximum reading → imageOk image ≡ true
+new-done : (before : List ℕ) (kind width value protocol octet transaction version profile maximum reading : ℕ) (image : List ℕ)
+    → call 0 image [] [] [] ≡ newCall before kind width value protocol octet transaction version profile maximum reading → imageOk image ≡ true
 unfolding newCall
-new-done before kind width value protocol octet transaction version maximum reading image e =
+new-done before kind width value protocol octet transaction version profile maximum reading image e =
     let tests : List (Bool × Refusal) = newTests before protocol in
     let t : Terms =
     record {
@@ -49,6 +50,7 @@ new-done before kind width value protocol octet transaction version maximum read
       protocol = protocolOf protocol octet;
       «transaction_id» = transaction;
       version = version;
+      profile = profile;
       «maximum_message_octets» = maximum;
     } in
     let m : Made = tryNewOf t reading in
@@ -57,16 +59,17 @@ new-done before kind width value protocol octet transaction version maximum read
     ∙ ap (λ (o : Option Refusal). isSome (unlessRefused o (λ n. call n before [] [] []) (newGives before m) .receiver)) (z .0)
     ∙ made-spells before (m .refused) (m .receiver) (receiver-new-fine t reading) (z .1)
 
-new-left : (before : List ℕ) (kind width value protocol octet transaction version maximum reading : ℕ) (n : ℕ) (image : List ℕ)
-    → call n image [] [] [] ≡ newCall before kind width value protocol octet transaction version maximum reading → (n ≡ 0 → ⊥) → image ≡ before
+new-left : (before : List ℕ) (kind width value protocol octet transaction version profile maximum reading : ℕ) (n : ℕ) (image : List ℕ)
+    → call n image [] [] [] ≡ newCall before kind width value protocol octet transaction version profile maximum reading → (n ≡ 0 → ⊥) → image ≡ before
 unfolding newCall
-new-left before kind width value protocol octet transaction version maximum reading n image e =
+new-left before kind width value protocol octet transaction version profile maximum reading n image e =
     let t : Terms =
     record {
       peer = record { kind = kind; width = width; value = value };
       protocol = protocolOf protocol octet;
       «transaction_id» = transaction;
       version = version;
+      profile = profile;
       «maximum_message_octets» = maximum;
     } in
     let m : Made = tryNewOf t reading in
@@ -74,10 +77,10 @@ new-left before kind width value protocol octet transaction version maximum read
     (call n image [] [] []) e (made-left before (m .refused) (m .receiver))
 
 making : (before : List ℕ) (n : ℕ) (image : List ℕ) → ReceiverMade before n image → Making imageOk before n image
-making before n image (receiver-new kind width value protocol octet transaction version maximum reading e) =
+making before n image (receiver-new kind width value protocol octet transaction version profile maximum reading e) =
     record {
-      made-ok = λ z. new-done before kind width value protocol octet transaction version maximum reading image (ap (λ (k : ℕ). call k image [] [] []) (sym z) ∙ e);
-      unchanged = new-left before kind width value protocol octet transaction version maximum reading n image e;
+      made-ok = λ z. new-done before kind width value protocol octet transaction version profile maximum reading image (ap (λ (k : ℕ). call k image [] [] []) (sym z) ∙ e);
+      unchanged = new-left before kind width value protocol octet transaction version profile maximum reading n image e;
     }
 
 -- ---- a step of the receiver behind the exports' tests, of which the row k is that of the record
@@ -109,10 +112,10 @@ receive-behaves others image n image′ store output kind width value protocol o
       unparsed = unparsed;
       reading = reading;
     } in
-    step-behaves others receptionOctets image store output answer (receiveOf 300000 (recordOf image) a store output) tests n image′ store′ output′ answer′ e refl
+    step-behaves others receptionOctets image store output answer (receiveOf (intervalOf (recordOf image)) (recordOf image) a store output) tests n image′ store′ output′ answer′ e refl
     (λ h. not-false-is (imageOk image) (refusal-none tests h 3))
     (λ o p. both _ _ (twice p) (both _ _ (twice (q ∙ o)) refl))
-    (receive-fine 300000 (recordOf image) a store output)
+    (receive-fine (intervalOf (recordOf image)) (recordOf image) a store output)
 
 advance-behaves : (others : Bool) (image : List ℕ) (n : ℕ) (image′ store : List ℕ) (reading : ℕ) (answer store′ answer′ : List ℕ)
     → call n image′ store′ [] answer′ ≡ advanceCall image store reading answer → Behaves imageOk others image n image′

@@ -10,6 +10,7 @@ use Rattle.sender.specs.declared.Terms.{Terms}
 use Rattle.sender.specs.declared.Sender.{Sender}
 use Rattle.sender.specs.declared.Offer.{Offer}
 use Rattle.sender.specs.declared.Offer.the-variants.{Nothing, Submission}
+use Rattle.sender.specs.Record.{intervalOf}
 use Rattle.sender.specs.Calls.{Answer, refused, answered, Step}
 use Rattle.sender.specs.TryNew.{offerOf}
 use Rattle.image_link.specs.Responses.{responseOk}
@@ -46,9 +47,9 @@ new-left tests before n image s e =
     (image-left (s .answer) before (s .sender))
 
 making : (before : List ℕ) (n : ℕ) (image : List ℕ) → SenderMade before n image → Making imageOk before n image
-making before n image (sender-new kind width value protocol octet plan message version number reading m) =
+making before n image (sender-new kind width value protocol octet plan message version profile number reading m) =
     let tests : List (Bool × Refusal) = newTests before protocol plan in
-    let terms : Terms = termsOf kind width value protocol octet version number in
+    let terms : Terms = termsOf kind width value protocol octet version profile number in
     let s : Step = newStep terms plan message reading in
     record {
       made-ok = λ z. new-done tests before image s refl (sender-new-fine terms (planOf plan) message reading) (subst (λ (k : ℕ). NewMet tests before s (call k image [])) z m);
@@ -96,7 +97,7 @@ behaves others before n after (advance reading answer answer′ m) =
 behaves others before n after (cancel reading answer answer′ m) =
     state-behaves others before n after answer answer′ (cancelStep before reading) m (cancel-fine (recordOf before) reading)
 behaves others before n after (submitted number ticket queued observed answer answer′ m) =
-    state-behaves others before n after answer answer′ (submittedStep before number ticket queued observed) m (submitted-fine 330000 (recordOf before) number ticket queued observed)
+    state-behaves others before n after answer answer′ (submittedStep before number ticket queued observed) m (submitted-fine (intervalOf (recordOf before)) (recordOf before) number ticket queued observed)
 behaves others before n after (accepted number ticket reading answer answer′ m) =
     state-behaves others before n after answer answer′ (acceptedStep before number ticket reading) m (accepted-fine (recordOf before) number ticket reading)
 behaves others before n after (lower-failed number ticket failure cause reading answer answer′ m) =

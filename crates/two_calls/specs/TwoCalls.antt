@@ -52,8 +52,8 @@ pub data PlanMade (before : List ℕ) (n : ℕ) (plan : List ℕ) : Type 0 where
 -- catkhize_plan_segment and catkhize_sender_new: both only read the plan, and nothing else as a value
 pub data PlanRead (others : Bool) (before : List ℕ) (n : ℕ) (after : List ℕ) : Type 0 where
   segment : (index : ℕ) (answer answer′ : List ℕ) → after ≡ before → partCall n answer′ ≡ planSegmentCall before index answer → PlanRead others before n after
-  sender-new : (image : List ℕ) (kind width value protocol octet : ℕ) (message : List ℕ) (version number reading : ℕ) (image′ : List ℕ) → after ≡ before
-      → sender.NewMet (sender.newTests image protocol before) image (sender.newStep (sender.termsOf kind width value protocol octet version number) before message reading)
+  sender-new : (image : List ℕ) (kind width value protocol octet : ℕ) (message : List ℕ) (version profile number reading : ℕ) (image′ : List ℕ) → after ≡ before
+      → sender.NewMet (sender.newTests image protocol before) image (sender.newStep (sender.termsOf kind width value protocol octet version profile number) before message reading)
       (sender.call n image′ [])
       → PlanRead others before n after
 
@@ -61,8 +61,8 @@ pub data PlanRead (others : Bool) (before : List ℕ) (n : ℕ) (after : List �
 
 -- catkhize_receiver_new
 pub data ReceiverMade (before : List ℕ) (n : ℕ) (image : List ℕ) : Type 0 where
-  receiver-new : (kind width value protocol octet transaction version maximum reading : ℕ)
-      → receiver.call n image [] [] [] ≡ receiver.newCall before kind width value protocol octet transaction version maximum reading
+  receiver-new : (kind width value protocol octet transaction version profile maximum reading : ℕ)
+      → receiver.call n image [] [] [] ≡ receiver.newCall before kind width value protocol octet transaction version profile maximum reading
       → ReceiverMade before n image
 
 -- catkhize_receiver_receive, _advance, _cancel, _release and _train; a receive reads a segment too
@@ -82,8 +82,8 @@ pub data ReceiverCall (others : Bool) (before : List ℕ) (n : ℕ) (after : Lis
 
 -- catkhize_sender_new
 pub data SenderMade (before : List ℕ) (n : ℕ) (image : List ℕ) : Type 0 where
-  sender-new : (kind width value protocol octet : ℕ) (plan message : List ℕ) (version number reading : ℕ)
-      → sender.NewMet (sender.newTests before protocol plan) before (sender.newStep (sender.termsOf kind width value protocol octet version number) plan message reading)
+  sender-new : (kind width value protocol octet : ℕ) (plan message : List ℕ) (version profile number reading : ℕ)
+      → sender.NewMet (sender.newTests before protocol plan) before (sender.newStep (sender.termsOf kind width value protocol octet version profile number) plan message reading)
       (sender.call n image [])
       → SenderMade before n image
 

@@ -12,6 +12,7 @@ use record::octets::Take;
 use record::play::plan::{Frozen, Wanted};
 use record::play::receiver::{Delivery, Opening as Receiving};
 use record::play::sender::{Opening as Sending, Reply, take_failure};
+use record::profiles::PROFILE;
 
 fn plan(wanted: &Wanted) -> String {
     format!(
@@ -44,7 +45,7 @@ fn frozen(frozen: &Frozen) -> String {
 
 fn receiver(opening: &Receiving) -> String {
     format!(
-        "receiver try_new: {:?}, {:?}, transaction {}, version {}, maximum {}, reading {}",
+        "receiver try_new: {:?}, {:?}, transaction {}, version {}, profile {PROFILE}, maximum {}, reading {}",
         opening.peer,
         opening.protocol,
         opening.transaction,
@@ -56,7 +57,7 @@ fn receiver(opening: &Receiving) -> String {
 
 fn sender(opening: &Sending) -> String {
     format!(
-        "{:?}, {:?}, version {}, reading {}",
+        "{:?}, {:?}, version {}, profile {PROFILE}, reading {}",
         opening.peer, opening.protocol, opening.version, opening.reading
     )
 }

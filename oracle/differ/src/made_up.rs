@@ -25,13 +25,14 @@ fn optional<T>(take: &mut Take, read: impl FnOnce(&mut Take) -> T) -> Option<T> 
     Some(read(take)).filter(|_| present)
 }
 
-/// The receiver that a record spells, which is not an impossible one; its data stand in the store.
+/// The receiver that a record spells: a possible one, of the original's profile; its data stand in the store.
 pub fn receiver(record: &[u8], store: &[u8]) -> Receiver {
     let mut take = Take(&record[1..]);
     let peer = take_peer(&mut take);
     let protocol = take_protocol(&mut take);
     let transaction_id = take.take8();
     let version = ProtocolVersion(take.take8());
+    take.take8();
     let maximum_message_octets = take.take64() as usize;
     let (state, status) = (take.take8(), take.take8());
     let status = STATUSES[usize::from(status)];
@@ -106,13 +107,14 @@ pub struct Named {
     pub last_ticket: u64,
 }
 
-/// The sender that a record spells, which is not an impossible one. Of its plan the original gets the count, the transaction and the window,
-/// which is all that a call but submission() reads.
+/// The sender that a record spells: a possible one, of the original's profile. Of its plan the original gets the count, the transaction and
+/// the window, which is all that a call but submission() reads.
 pub fn sender(record: &[u8]) -> (Sender, Named) {
     let mut take = Take(&record[1..]);
     let peer = take_peer(&mut take);
     let protocol = take_protocol(&mut take);
     let version = ProtocolVersion(take.take8());
+    take.take8();
     let number = take.take64();
     let state = sender_state(take.octets(4));
     let submission = optional(&mut take, |take| {

@@ -5,6 +5,9 @@
 //! LETTERS are some of c (codec), p (planners, frozen check, converter and delivery orders), r (receiver), t (trains), s (sender); all of
 //! them if none is given.
 //!
+//! With the feature `profile_2` the original has the figures of bench profile 2 (document 02, 2026-11), the machines are made under it, and
+//! the areas are those of the machines alone: r, t and s.
+//!
 //! It runs through what can be run through whole, then N rounds of random and systematic inputs, prints what it ran, and ends with status
 //! 1 where the two disagree (after the smallest input found), or where a refusal, a state or an input that a run has to have was not seen.
 
@@ -17,6 +20,7 @@ mod exceptions;
 mod made_up;
 mod orders;
 mod plans;
+mod profiles;
 mod receiver;
 mod sender;
 mod shrink;
@@ -30,6 +34,7 @@ use codec::{CodecChecker, Found};
 use orders::OrderChecker;
 use plans::PlanChecker;
 use receiver::{Receivers, TrainChecker};
+use record::profiles::PROFILE;
 use record::{make, tokens};
 use sender::Senders;
 use std::cell::RefCell;
@@ -45,7 +50,8 @@ use watch::{Case, Disagreement, Shared, Sheet, watch};
 /// The seed of the gate's run.
 const SEED: u64 = 136_620;
 const ROUNDS: u64 = 1;
-const AREAS: &str = "cprts";
+/// No codec and no plan has a profile.
+const AREAS: &str = if PROFILE == 1 { "cprts" } else { "rts" };
 /// Random codec cases of a round, beside the systematic ones.
 const CODEC_CASES: usize = 400_000;
 const CODEC_PARTS: u64 = 4;
@@ -109,6 +115,7 @@ fn arguments() -> Option<Arguments> {
         let value = words.next()?;
         if word == "--areas" {
             arguments.areas = value;
+            arguments.areas.retain(|letter| AREAS.contains(letter));
             continue;
         }
         let number: u64 = value.parse().ok()?;
@@ -123,10 +130,10 @@ fn arguments() -> Option<Arguments> {
     Some(arguments)
 }
 
-/// The seed of a part of a round.
+/// The seed of a part of a round. Profile 2 has others than profile 1.
 fn part_seed(seed: u64, round: u64, part: u64) -> u64 {
-    let mut random =
-        record::random::Random::new(seed.wrapping_add(round << 32).wrapping_add(part << 24));
+    let place = u64::from(PROFILE - 1) << 56 | round << 32 | part << 24;
+    let mut random = record::random::Random::new(seed.wrapping_add(place));
     random.next()
 }
 
@@ -281,7 +288,10 @@ fn main() -> ExitCode {
         return ExitCode::from(2);
     };
     tokens::check_counting();
-    println!("seed {}, rounds {}", arguments.seed, arguments.rounds);
+    println!(
+        "profile {PROFILE}, seed {}, rounds {}, areas {:?}",
+        arguments.seed, arguments.rounds, arguments.areas
+    );
     let start = Instant::now();
     let (table, disagreement) = run_all(&arguments);
     let seconds = start.elapsed().as_secs_f64();

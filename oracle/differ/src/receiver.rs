@@ -6,21 +6,25 @@ mod release;
 pub use release::RELEASE;
 
 use crate::made_up;
-use crate::spell::{self, FILLING, Terms, filled};
+use crate::profiles::{self, IN_RECEIVER, Making, NEITHER};
+use crate::spell::{self, FILLING, KIND, RECEIVER_LENGTHS, RECEIVER_SLOTS, Terms, filled};
 use crate::spells;
 use crate::table::{
     Area, BEGIN_MISSING, EXCEPTIONS_HANDED, FULL_MAP, FULL_MAP_RECEIVED, FULL_TRAIN,
-    LATE_RECEPTION, LONG_MAP_GAPS, LONG_STORE, NONE_MISSING, Table, WIPED, WORD_EDGES,
+    LATE_RECEPTION, LONG_MAP_GAPS, LONG_STORE, MADE, NEITHER_ADVANCE, NEITHER_AND_CLOCK,
+    NEITHER_CANCEL, NEITHER_RECEIVE, NEITHER_TRAIN, NONE_MISSING, Table, WIPED, WORD_EDGES,
 };
-use crate::watch::{Case, Checked, Checker, given, same, same_figures, same_given};
+use crate::watch::{Case, Checked, Checker, by_document_02, given, same, same_figures, same_given};
 use bts136::l3::broadcast::ProtocolVersion;
 use bts136::l3::tsar::{AcknowledgmentWindow, decode_segment};
 use bts136::link::tsar::{Receiver, Reception};
 use catkhize::{calls, layout};
 use record::fields::{take_peer, take_protocol};
 use record::list::{DONE, Player};
+use record::make::receiver_run::LAST_READING;
 use record::octets::{Put, Take};
 use record::play::receiver::{ADVANCE, CANCEL, Delivery, OPEN, Opening, RECEIVE, Receiving};
+use record::profiles::PROFILE;
 use record::random::Random;
 use record::refusals;
 
@@ -40,7 +44,8 @@ const CLOSED: std::ops::RangeInclusive<u8> = 3..=5;
 const SLOT_OCTETS: usize = 255;
 /// Where REPLY has the figures of the response's map: how many entries are missing, and the first of them.
 const FIGURES: usize = layout::reply::MISSING;
-const LAST_READING: u64 = u64::MAX - 300_000;
+/// Where a record has the maximum, behind its profile.
+const MAXIMUM: usize = IN_RECEIVER + 1;
 
 /// The port's receiver, and what its buffers should hold.
 struct Port {
@@ -327,6 +332,7 @@ impl Port {
             origin,
             opening.transaction,
             opening.version,
+            PROFILE,
             opening.maximum,
             opening.reading,
         );
@@ -357,6 +363,7 @@ impl Port {
             left_over: None,
         };
         port.compare(original, area)?;
+        area.input(MADE);
         Ok(Some(port))
     }
 
@@ -369,7 +376,8 @@ impl Port {
         if let Some(before) = self.left_over.as_ref().filter(|_| !closes) {
             let held = original.segments();
             for index in (0..256).filter(|index| held[*index].is_none()) {
-                for (at, octets) in [(90 + 2 * index, 2), (602 + 13 * index, 13)] {
+                let length = (RECEIVER_LENGTHS + 2 * index, 2);
+                for (at, octets) in [length, (RECEIVER_SLOTS + KIND * index, KIND)] {
                     expected[at..at + octets].copy_from_slice(&before[at..at + octets]);
                 }
             }
@@ -562,40 +570,98 @@ impl Port {
             self.record = right;
             return checked;
         };
-        let area = table.area(name);
-        let checked = if case.op == TRAIN && expected == 62 {
-            self.impossible_train(case, area)
-        } else {
-            // The output that a damaged maximum asks for may be longer: 61 comes before 62.
-            let mut maximum = Take(&self.record[15..]);
-            let needed = maximum.take64().min(layout::STORE as u64) as usize;
-            let receives = case.op == RECEIVE;
-            let expected = if expected == 62 && receives && self.output.len() < needed {
-                61
-            } else {
-                expected
-            };
-            let answer = answer_octets(case.op);
-            let make = |port: &mut Self, answer: &mut [u8]| {
-                let lent = Lent {
-                    record: &mut port.record,
-                    store: &mut port.store,
-                    output: &mut port.output,
-                    answer,
-                };
-                call(case, lent, &Wrong::default())
-            };
-            self.refused(make, answer, 256 * expected, area)
-        };
+        let checked = self.refused_record(expected, case, table.area(name));
         self.record = right;
         checked
     }
 
-    /// The call on a record that spells a possible receiver, reached by calls or not: the original with those fields does the same.
+    /// The call on a record for which it is to be refused with 257 or 62.
+    fn refused_record(&mut self, expected: u32, case: &Case, area: &mut Area) -> Checked {
+        if case.op == TRAIN && expected == 62 {
+            return self.impossible_train(case, area);
+        }
+        // The output that a damaged maximum asks for may be longer: 61 comes before 62.
+        let receives = case.op == RECEIVE;
+        let expected = if expected == 62 && receives && self.output.len() < self.needed() {
+            61
+        } else {
+            expected
+        };
+        if expected == 62 {
+            self.seen_neither(case, area);
+        }
+        let answer = answer_octets(case.op);
+        let make = |port: &mut Self, answer: &mut [u8]| {
+            let lent = Lent {
+                record: &mut port.record,
+                store: &mut port.store,
+                output: &mut port.output,
+                answer,
+            };
+            call(case, lent, &Wrong::default())
+        };
+        self.refused(make, answer, 256 * expected, area)
+    }
+
+    /// The octets of the output that the record's maximum asks for.
+    fn needed(&self) -> usize {
+        let maximum = Take(&self.record[MAXIMUM..]).take64();
+        maximum.min(layout::STORE as u64) as usize
+    }
+
+    /// The call on a record of neither profile, and a release of it: 62, behind 60 and 61.
+    fn neither(
+        &mut self,
+        (profile, lengths, _): (u64, u64, u64),
+        case: &Case,
+        table: &mut Table,
+        name: &'static str,
+    ) -> Checked {
+        let profile = profile as u8;
+        if profiles::known(profile) {
+            return Ok(());
+        }
+        let right = self.record.clone();
+        self.record[IN_RECEIVER] = profile;
+        let checked = self.refused_neither(lengths, case, table, name);
+        self.record = right;
+        checked.map_err(|what| format!("a record of profile {profile}: {}", by_document_02(what)))
+    }
+
+    fn refused_neither(
+        &mut self,
+        lengths: u64,
+        case: &Case,
+        table: &mut Table,
+        name: &'static str,
+    ) -> Checked {
+        self.short(lengths, case, table.area(name))?;
+        self.refused_record(62, case, table.area(name))?;
+        let reading = reading(case).unwrap_or(0);
+        self.release((reading, 0, lengths), case, table)
+    }
+
+    /// What a run has to see of records of neither profile.
+    fn seen_neither(&self, case: &Case, area: &mut Area) {
+        if profiles::known(self.record[IN_RECEIVER]) {
+            return;
+        }
+        area.input(match case.op {
+            RECEIVE => NEITHER_RECEIVE,
+            ADVANCE => NEITHER_ADVANCE,
+            CANCEL => NEITHER_CANCEL,
+            _ => NEITHER_TRAIN,
+        });
+        let last = release::last_reading(&self.record);
+        if reading(case).is_some_and(|reading| reading < last) {
+            area.input(NEITHER_AND_CLOCK);
+        }
+    }
+
+    /// The call on a record that spells a possible receiver, reached by calls or not: the original with those fields does the same. One of
+    /// the other profile is no case.
     fn made_up(&self, case: &Case, area: &mut Area) -> Checked {
-        let mut maximum = Take(&self.record[15..]);
-        let maximum = maximum.take64();
-        if self.output.len() < maximum.min(layout::STORE as u64) as usize {
+        if self.record[IN_RECEIVER] != PROFILE || self.output.len() < self.needed() {
             return Ok(());
         }
         let original = made_up::receiver(&self.record, &self.store);
@@ -609,7 +675,7 @@ impl Port {
             },
             transaction: self.record[13],
             version: self.record[14],
-            maximum,
+            maximum: Take(&self.record[MAXIMUM..]).take64(),
         };
         let mut copy = Self {
             terms,
@@ -619,7 +685,7 @@ impl Port {
             expected_store: self.store.clone(),
             expected_output: self.output.clone(),
             held: original.segments().iter().map(Option::is_some).collect(),
-            state: self.record[23],
+            state: self.record[layout::receiver::STATE],
             left_over: Some(self.record.clone()),
         };
         let mut player = Trains {
@@ -643,8 +709,7 @@ impl Port {
         let length = usize::from(length[0]) << 8 | usize::from(length[1]);
         let next = &train.octets[..length.min(train.octets.len())];
         let version = ProtocolVersion(self.record[14]);
-        let mut maximum = Take(&self.record[15..]);
-        let needed = maximum.take64().min(layout::STORE as u64) as usize;
+        let needed = self.needed();
         let expected = match decode_segment(next, version) {
             Err(error) => {
                 let (n, m) = refusals::codec(error);
@@ -653,6 +718,9 @@ impl Port {
             Ok(_) if self.output.len() < needed => 256 * 61,
             Ok(_) => 256 * 62,
         };
+        if expected == 256 * 62 {
+            self.seen_neither(case, area);
+        }
         let before = self.record.clone();
         let mut answer = filled(layout::TRAIN);
         let lent = Lent {
@@ -749,6 +817,32 @@ impl Receivers {
         port.check(original, message, case, answer, area)
     }
 
+    /// The opening under other profiles, where it gave this number.
+    fn makings(&self, case: &Case, given: u32, area: &mut Area) -> Checked {
+        let opening = Opening::take(&mut Take(&case.input));
+        let origin = spell::origin(opening.peer, opening.protocol);
+        let make = move |record: &mut [u8], protocol: u8, profile: u8| {
+            calls::receiver_new(
+                record,
+                calls::Origin { protocol, ..origin },
+                opening.transaction,
+                opening.version,
+                profile,
+                opening.maximum,
+                opening.reading,
+            )
+        };
+        let making = Making {
+            make: Box::new(make),
+            protocol: origin.protocol,
+            given,
+            made: self.port.as_ref().map_or(&[], |port| &port.record),
+            octets: layout::RECEIVER,
+            place: IN_RECEIVER,
+        };
+        making.check(&case.input, area)
+    }
+
     fn probe_in(&mut self, case: &Case, table: &mut Table, name: &'static str) -> Checked {
         let Some(port) = &mut self.port else {
             return Ok(());
@@ -763,6 +857,7 @@ impl Receivers {
             SHORT => port.short(numbers.0, &inner, table.area(name)),
             DAMAGED => port.damaged(numbers, &inner, table, name),
             RELEASE => port.release(numbers, &inner, table),
+            NEITHER => port.neither(numbers, &inner, table, name),
             _ => port.buffers((numbers.0, numbers.1), &inner, table.area(name)),
         }
     }
@@ -771,14 +866,14 @@ impl Receivers {
 /// One probe for about so many calls.
 const PROBES: usize = 5;
 /// Where a record has what 62 asks about, up to the slots.
-const RECORD_FRONT: usize = 602;
+const RECORD_FRONT: usize = RECEIVER_SLOTS;
 
 /// A place in a record, most often before the slots.
 fn any_place(random: &mut Random) -> usize {
     match random.below(4) {
         0 => random.below(layout::RECEIVER),
         1 => random.below(RECORD_FRONT),
-        _ => random.below(90),
+        _ => random.below(RECEIVER_LENGTHS),
     }
 }
 
@@ -830,7 +925,11 @@ impl Checker for Receivers {
         table: &mut Table,
     ) -> Checked {
         let area = table.area(Self::NAME);
-        self.check_in(original.receiver.as_ref(), None, case, answer, area)
+        self.check_in(original.receiver.as_ref(), None, case, answer, area)?;
+        if case.op == OPEN {
+            return self.makings(case, given(answer), area);
+        }
+        Ok(())
     }
 
     fn probe(&mut self, _: &mut Receiving, case: &Case, table: &mut Table) -> Checked {
@@ -844,6 +943,11 @@ impl Checker for Receivers {
     fn any_other(&self, random: &mut Random, last: &Case) -> Option<Case> {
         let port = self.port.as_ref()?;
         release::any(random, &port.record, last)
+    }
+
+    fn any_neither(&self, random: &mut Random, next: &Case) -> Option<Case> {
+        self.port.as_ref()?;
+        profiles::any_neither(random, next)
     }
 }
 
@@ -883,5 +987,9 @@ impl Checker for TrainChecker {
 
     fn any_other(&self, random: &mut Random, last: &Case) -> Option<Case> {
         self.0.any_other(random, last)
+    }
+
+    fn any_neither(&self, random: &mut Random, next: &Case) -> Option<Case> {
+        self.0.any_neither(random, next)
     }
 }

@@ -6,13 +6,16 @@ use crate::even;
 use crate::exceptions;
 use crate::made_up;
 use crate::plans::{port_frozen, port_plan};
+use crate::profiles::{self, IN_SENDER, Making, NEITHER};
 use crate::spell::{self, FILLING, SENDER_PLAN, Tickets, filled};
 use crate::spells;
 use crate::table::{
     Area, CONVERTED_SENDERS, EVEN_SENDER, EXCEPTIONS_KEPT, EXCEPTIONS_PLANNED, EXCEPTIONS_SENDER,
-    FROZEN_SENDER, FULL_MAP, FULL_SENDER, LATE_SUBMISSION, NEITHER_PLANNER, OTHER_PLANNER, Table,
+    FROZEN_SENDER, FULL_MAP, FULL_SENDER, LATE_SUBMISSION, MADE, NEITHER_ACCEPTED, NEITHER_ADVANCE,
+    NEITHER_AND_CLOCK, NEITHER_CANCEL, NEITHER_LOWER_FAILED, NEITHER_PLANNER, NEITHER_RESPONSE,
+    NEITHER_SUBMITTED, OTHER_PLANNER, Table,
 };
-use crate::watch::{Case, Checked, Checker, given, same, same_given};
+use crate::watch::{Case, Checked, Checker, by_document_02, given, same, same_given};
 use bts136::l3::broadcast::ProtocolVersion;
 use bts136::l3::relay::set_ceiling;
 use bts136::l3::tsar::{MessagePlan, Segment, SegmentedMessage, plan_message};
@@ -20,12 +23,14 @@ use bts136::link::tsar::{LowerLayerFailure, Sender, SenderFailure, SenderState, 
 use catkhize::calls::{self, Origin};
 use catkhize::layout;
 use record::fields::{EXCEPTIONS, take_head};
+use record::make::sender_run::LAST_QUEUED;
 use record::octets::{Put, Take, pattern};
 use record::play::plan::{Frozen, Wanted};
 use record::play::sender::{
     ACCEPTED, ADVANCE, CANCEL, LOWER_FAILED, OPEN, OPEN_FROZEN, Open, Opening, RESPONSE, Reply,
     SUBMITTED, Sending,
 };
+use record::profiles::PROFILE;
 use record::random::Random;
 
 /// Probes: the call where tickets are nearly used up, where submissions are, on a record with octets changed, with buffers that are too
@@ -39,14 +44,15 @@ const PLAN: u8 = 0x84;
 /// The area of calls on records that no list of calls reached, or that one did.
 const MADE_UP: &str = "senders made up";
 /// How many submissions a made-up sender is said to have made: more than any list names.
-const MADE: u64 = 1 << 40;
+const MADE_BEFORE: u64 = 1 << 40;
 
 /// The last octet of a planned plan's later capacity, which no list has above 255.
 const LATER_CAPACITY: u64 = crate::buffers::LATER_CAPACITY as u64 + 7;
 
-const LAST_QUEUED: u64 = u64::MAX - 330_000;
-const LAST_TICKET: usize = 44;
-const SUBMISSIONS: usize = 165;
+/// Where a record has its last ticket and, behind the deadline's flag and number, its last reading.
+const LAST_TICKET: usize = 45;
+const LAST_READING: usize = layout::sender::DEADLINE + 1 + 8;
+const SUBMISSIONS: usize = layout::sender::SUBMISSIONS;
 
 /// The port's sender, with what never changes of it.
 struct Port {
@@ -190,24 +196,19 @@ impl Port {
             origin: spell::origin(opening.peer, opening.protocol),
             opening,
             number,
-            record: filled(layout::SENDER + MORE),
+            record: Vec::new(),
             plan,
             message,
             offsets: Vec::new(),
         };
-        let found = calls::sender_new(
-            &mut port.record,
-            port.origin,
-            &port.plan,
-            &port.message,
-            port.opening.version,
-            number,
-            port.opening.reading,
-        );
+        let mut record = filled(layout::SENDER + MORE);
+        let found = port.make(&mut record, port.origin.protocol, PROFILE);
+        port.record = record;
         area.count(found);
         same_given(found, expected)?;
         let Some(original) = original else {
             same("record", &port.record, &filled(layout::SENDER + MORE))?;
+            port.making(expected, &[]).check(&case.input, area)?;
             return Ok(None);
         };
         let mut offset = 0;
@@ -221,14 +222,45 @@ impl Port {
         if original.sender.plan().acknowledgment_window() == spell::window(EXCEPTIONS) {
             area.input(EXCEPTIONS_SENDER);
         }
-        let expected = port.expected(original);
-        port.compare(&expected, original, area)?;
+        let record = port.expected(original);
+        port.compare(&record, original, area)?;
+        area.input(MADE);
+        port.making(0, &port.record).check(&case.input, area)?;
         if let Some(plan) = kept {
             area.input(EXCEPTIONS_KEPT);
             port.record[SENDER_PLAN..layout::SENDER].copy_from_slice(&plan[1..]);
             port.plan = plan;
         }
         Ok(Some(port))
+    }
+
+    /// Makes the sender in a record, under a protocol's number and a profile.
+    fn make(&self, record: &mut [u8], protocol: u8, profile: u8) -> u32 {
+        calls::sender_new(
+            record,
+            Origin {
+                protocol,
+                ..self.origin
+            },
+            &self.plan,
+            &self.message,
+            self.opening.version,
+            profile,
+            self.number,
+            self.opening.reading,
+        )
+    }
+
+    /// The making, to be made under other profiles: what it gave, and the record that it left.
+    fn making<'a>(&'a self, given: u32, made: &'a [u8]) -> Making<'a> {
+        Making {
+            make: Box::new(|record, protocol, profile| self.make(record, protocol, profile)),
+            protocol: self.origin.protocol,
+            given,
+            made,
+            octets: layout::SENDER,
+            place: IN_SENDER,
+        }
     }
 
     /// The record that the original's sender is.
@@ -373,7 +405,20 @@ impl Port {
         } else {
             return self.made_up(record, case, table.area(MADE_UP));
         };
-        let area = table.area(Senders::NAME);
+        self.refused_record(record, expected, case, table.area(Senders::NAME))
+    }
+
+    /// The call on a record for which it is to be refused with 257 or 62.
+    fn refused_record(
+        &self,
+        mut record: Vec<u8>,
+        expected: u32,
+        case: &Case,
+        area: &mut Area,
+    ) -> Checked {
+        if expected == 62 {
+            seen_neither(&record, case, area);
+        }
         let before = record.clone();
         let mut answer = filled(layout::STATE);
         let found = call(
@@ -398,8 +443,29 @@ impl Port {
         Ok(())
     }
 
-    /// The call on a record that spells a possible sender, reached by calls or not: the original with those fields does the same.
+    /// The call on a record of neither profile: 62. What it offers is what the right record offers.
+    fn neither(&self, profile: u8, case: &Case, area: &mut Area) -> Checked {
+        if profiles::known(profile) {
+            return Ok(());
+        }
+        let named =
+            |what: String| format!("a record of profile {profile}: {}", by_document_02(what));
+        let mut record = self.record.clone();
+        record[IN_SENDER] = profile;
+        let (mut answer, mut right) = (filled(layout::SUBMISSION), filled(layout::SUBMISSION));
+        let found = calls::sender_submission(&record, &mut answer);
+        let expected = calls::sender_submission(&self.record, &mut right);
+        same_given(found, expected).map_err(named)?;
+        same("submission", &answer, &right).map_err(named)?;
+        self.refused_record(record, 62, case, area).map_err(named)
+    }
+
+    /// The call on a record that spells a possible sender, reached by calls or not: the original with those fields does the same. One of the
+    /// other profile is no case.
     fn made_up(&self, mut record: Vec<u8>, case: &Case, area: &mut Area) -> Checked {
+        if record[IN_SENDER] != PROFILE {
+            return Ok(());
+        }
         let (sender, named) = made_up::sender(&record);
         let other = Submission::made_up(sender.plan(), (0, 0));
         let mut take = Take(&case.input);
@@ -413,12 +479,12 @@ impl Port {
         let token = token.unwrap_or(other);
         let mut open = Open {
             sender,
-            made: MADE,
+            made: MADE_BEFORE,
             offered: [(ticket, token.clone())].into(),
             foreign: token,
         };
         let answer = play(&mut open, case);
-        let made = open.made - MADE;
+        let made = open.made - MADE_BEFORE;
         let before = record.clone();
         let mut state = filled(layout::STATE);
         let found = call(
@@ -525,39 +591,63 @@ impl Port {
             }
             _ => {}
         }
+        let changed = Self {
+            plan,
+            message,
+            record: Vec::new(),
+            offsets: Vec::new(),
+            opening: self.opening.clone(),
+            ..*self
+        };
+        let (plan, message) = (&changed.plan, &changed.message);
         let mut record = filled(layout::SENDER);
-        let found = calls::sender_new(
-            &mut record,
-            self.origin,
-            &plan,
-            &message,
-            self.opening.version,
-            self.number,
-            self.opening.reading,
-        );
+        let found = changed.make(&mut record, self.origin.protocol, PROFILE);
         area.count(found);
-        let expected = if !spells::plan(&plan) {
+        let expected = if !spells::plan(plan) {
             256 * spells::SPELLS_NONE
-        } else if is_plan_of(&plan, &message) {
+        } else if is_plan_of(plan, message) {
             0
         } else {
             256 * 40
         };
         same_given(found, expected)?;
-        if at == LATER_CAPACITY && also == 0 && plan != self.plan {
+        changed
+            .making(expected, &record)
+            .under(change as u8, area)?;
+        if at == LATER_CAPACITY && also == 0 && *plan != self.plan {
             match expected / 256 {
                 0 => area.input(OTHER_PLANNER),
                 40 => area.input(NEITHER_PLANNER),
                 _ => {}
             }
         }
-        if expected == 256 * 40 && plan[FORM] == PLANNED && is_planned(&plan, &message) {
+        if expected == 256 * 40 && plan[FORM] == PLANNED && is_planned(plan, message) {
             area.input(EXCEPTIONS_PLANNED);
         }
         if expected == 0 {
             return same("plan", &record[SENDER_PLAN..], &plan[1..layout::PLAN]);
         }
         same("record", &record, &filled(layout::SENDER))
+    }
+}
+
+/// What a run has to see of records of neither profile.
+fn seen_neither(record: &[u8], case: &Case, area: &mut Area) {
+    if profiles::known(record[IN_SENDER]) {
+        return;
+    }
+    // A call's own reading is its last field.
+    let reading = &case.input[case.input.len() - 8..];
+    area.input(match case.op {
+        ADVANCE => NEITHER_ADVANCE,
+        CANCEL => NEITHER_CANCEL,
+        SUBMITTED => NEITHER_SUBMITTED,
+        ACCEPTED => NEITHER_ACCEPTED,
+        LOWER_FAILED => NEITHER_LOWER_FAILED,
+        _ => NEITHER_RESPONSE,
+    });
+    if Take(reading).take64() < Take(&record[LAST_READING..]).take64() {
+        area.input(NEITHER_AND_CLOCK);
     }
 }
 
@@ -709,6 +799,7 @@ impl Checker for Senders {
         match case.op {
             TICKETS => port.tickets(original, numbers.0 % 3, &inner, area),
             COUNTER => port.counter(original, numbers.0, &inner, area),
+            NEITHER => port.neither(numbers.0 as u8, &inner, area),
             _ => port.buffers((numbers.0, numbers.1), &inner, area),
         }
     }
@@ -772,6 +863,11 @@ impl Checker for Senders {
             changed(WINDOW as u64, u64::from(EXCEPTIONS))
         };
         Some(Case { op: PLAN, input })
+    }
+
+    fn any_neither(&self, random: &mut Random, next: &Case) -> Option<Case> {
+        self.port.as_ref()?;
+        profiles::any_neither(random, next)
     }
 }
 

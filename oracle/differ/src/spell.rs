@@ -13,6 +13,7 @@ use catkhize::calls::Origin;
 use catkhize::layout;
 use record::fields::put_head;
 use record::octets::Put;
+use record::profiles::PROFILE;
 
 /// What every octet of a lent buffer holds before a call.
 pub const FILLING: u8 = 0xa5;
@@ -140,16 +141,18 @@ pub struct Terms {
     pub maximum: u64,
 }
 
-const KIND: usize = 13;
-const RECEIVER_LENGTHS: usize = 90;
-const RECEIVER_SLOTS: usize = 602;
+pub const KIND: usize = 13;
+/// Where a receiver's record has the lengths of its slots, then their kinds.
+pub const RECEIVER_LENGTHS: usize = 91;
+pub const RECEIVER_SLOTS: usize = 603;
 
 pub fn receiver(terms: Terms, receiver: &Receiver) -> Vec<u8> {
     let mut out = Vec::with_capacity(layout::RECEIVER + 64);
-    out.put8(layout::LAYOUT_VERSION);
+    out.put8(layout::RECEIVER_VERSION);
     put_origin(&mut out, terms.origin);
     out.put8(terms.transaction);
     out.put8(terms.version);
+    out.put8(PROFILE);
     out.put64(terms.maximum);
     out.put_all(&receiver_state(receiver.state()));
     let services = receiver.services();
@@ -198,7 +201,7 @@ fn planned_with(plan: &SegmentedMessage, later: usize) -> Vec<u8> {
     let SegmentKind::Begin { message_length, .. } = segments[0].kind else {
         panic!("a plan opens with a Begin");
     };
-    let mut out = vec![layout::LAYOUT_VERSION, 0];
+    let mut out = vec![layout::PLAN_VERSION, 0];
     out.put64(plan.message_octets() as u64);
     out.put64(plan.payload_budget_octets() as u64);
     out.put8(segments[0].transaction_id);
@@ -215,7 +218,7 @@ fn planned_with(plan: &SegmentedMessage, later: usize) -> Vec<u8> {
 pub fn frozen(plan: &SegmentedMessage) -> Vec<u8> {
     const PLANNED: usize = 43;
     let segments = plan.segments();
-    let mut out = vec![layout::LAYOUT_VERSION, 1];
+    let mut out = vec![layout::PLAN_VERSION, 1];
     out.put_all(&[0; PLANNED]);
     out.put64(segments.len() as u64);
     out.put64(plan.message_octets() as u64);
@@ -264,9 +267,10 @@ pub fn sender(
     sender: &Sender,
 ) -> Vec<u8> {
     let mut out = Vec::with_capacity(SENDER_PLAN);
-    out.put8(layout::LAYOUT_VERSION);
+    out.put8(layout::SENDER_VERSION);
     put_origin(&mut out, origin);
     out.put8(version);
+    out.put8(PROFILE);
     out.put64(number);
     out.put_all(&sender_state(sender.state()));
     let current = sender.current();
@@ -287,7 +291,7 @@ pub fn sender(
 }
 
 /// Where the plan begins in a sender's record, without its layout version.
-pub const SENDER_PLAN: usize = 173;
+pub const SENDER_PLAN: usize = 174;
 
 pub fn window(number: u8) -> AcknowledgmentWindow {
     record::fields::window(number)

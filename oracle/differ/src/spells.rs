@@ -1,6 +1,8 @@
 //! Whether a buffer spells what its layout says (257), and whether the state that a record spells is impossible (62): document 01's list,
-//! read here from the octets alone.
+//! and document 02's neither profile (2026-11), read here from the octets alone.
 
+use crate::profiles::{self, IN_RECEIVER, IN_SENDER};
+use crate::spell::SENDER_PLAN;
 use catkhize::layout;
 use record::octets::Take;
 
@@ -79,7 +81,7 @@ pub fn receiver(octets: &[u8]) -> bool {
     let version = take.take8();
     take.octets(10);
     let protocol = take.take8();
-    take.octets(1 + 1 + 1 + 8);
+    take.octets(1 + 1 + 1 + 1 + 8);
     let (state, status) = (take.take8(), take.take8());
     let [compression, window, crc_status] = [take.take8(), take.take8(), take.take8()];
     let end = optional(&mut take, 1);
@@ -87,7 +89,7 @@ pub fn receiver(octets: &[u8]) -> bool {
     take.octets(8);
     let deadline = optional(&mut take, 8);
     take.octets(8 + 32 + 512);
-    version == layout::LAYOUT_VERSION
+    version == layout::RECEIVER_VERSION
         && protocol <= 2
         && state <= 5
         && (state == 3 && status <= 13 || status == 0)
@@ -121,7 +123,7 @@ fn plan_after_version(octets: &[u8]) -> bool {
 
 /// A PLAN.
 pub fn plan(octets: &[u8]) -> bool {
-    octets[0] == layout::LAYOUT_VERSION && plan_after_version(&octets[1..])
+    octets[0] == layout::PLAN_VERSION && plan_after_version(&octets[1..])
 }
 
 /// The data octets of a segment, and the segments of a plan, at the most.
@@ -208,13 +210,13 @@ pub fn sender(octets: &[u8]) -> bool {
     let version = take.take8();
     take.octets(10);
     let protocol = take.take8();
-    take.octets(1 + 1 + 8);
+    take.octets(1 + 1 + 1 + 8);
     let state = state(take.octets(4));
     let submission = optional(&mut take, 17);
     take.octets(8 + 96);
     let deadline = optional(&mut take, 8);
     take.octets(16);
-    version == layout::LAYOUT_VERSION
+    version == layout::SENDER_VERSION
         && protocol <= 2
         && state
         && submission
@@ -227,9 +229,10 @@ fn marks(take: &mut Take) -> [bool; 256] {
     std::array::from_fn(|index| words[index / 64] >> (index % 64) & 1 == 1)
 }
 
-/// A record of a receiver that document 01 calls impossible.
+/// A record of a receiver that document 01 calls impossible, or that is of neither profile.
 pub fn receiver_impossible(octets: &[u8]) -> bool {
-    let mut take = Take(&octets[15..]);
+    let mut take = Take(&octets[IN_RECEIVER..]);
+    let profile = take.take8();
     let maximum = take.take64();
     let state = take.take8();
     take.octets(4);
@@ -256,20 +259,22 @@ pub fn receiver_impossible(octets: &[u8]) -> bool {
         || end_known && held[end + 1..].contains(&true)
         || deadline && !receiving
         || complete && (!end_known || held[..end].contains(&false))
+        || !profiles::known(profile)
 }
 
-/// A record of a sender that document 01 calls impossible.
+/// A record of a sender that document 01 calls impossible, or that is of neither profile.
 pub fn sender_impossible(octets: &[u8]) -> bool {
-    let state = octets[22];
-    let present = octets[26] == 1;
-    let index = u64::from(octets[35]);
-    let mut take = Take(&octets[52..]);
+    let state = octets[layout::sender::STATE];
+    let present = octets[27] == 1;
+    let index = u64::from(octets[36]);
+    let mut take = Take(&octets[53..]);
     let maps = [marks(&mut take), marks(&mut take), marks(&mut take)];
-    let deadline = octets[148] == 1;
-    let count = if octets[173] == 0 {
-        Take(&octets[173 + 35..]).take64()
+    let deadline = octets[layout::sender::DEADLINE] == 1;
+    let plan = &octets[SENDER_PLAN..];
+    let count = if plan[0] == 0 {
+        Take(&plan[35..]).take64()
     } else {
-        Take(&octets[173 + 44..]).take64()
+        Take(&plan[44..]).take64()
     };
     if !(2..=256).contains(&count) {
         return true;
@@ -280,4 +285,5 @@ pub fn sender_impossible(octets: &[u8]) -> bool {
             .iter()
             .any(|marks| marks[count as usize..].contains(&true))
         || deadline && state >= 3
+        || !profiles::known(octets[IN_SENDER])
 }

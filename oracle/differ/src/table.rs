@@ -75,7 +75,7 @@ fn refusal_name(number: u32) -> String {
 }
 
 /// The refusals that a run has to see, by area. 24, 40, 41, 60 to 63 and 256 to 258 lie outside document 01's domain, as no list of calls on
-/// right buffers gives them; the run reaches them with damaged plans, records and buffers. 25, 26 and 28 are document 02's.
+/// right buffers gives them; the run reaches them with damaged plans, records and buffers. 25, 26, 28 and 64 are document 02's.
 const REFUSALS: [(&str, &str); 12] = [
     ("codec", "1 2 3 4 5 6/1 6/2 6/3 6/4 6/5 7 8 61 256 257"),
     ("planner", "1 6/1 20 21 22 25 256 257 258"),
@@ -92,7 +92,7 @@ const REFUSALS: [(&str, &str); 12] = [
     (DELIVERY_ORDERS, "28 61"),
     (
         "receiver",
-        "1 6/1 6/2 6/3 6/4 6/5 30 31 32 33 34 35 36 37 38 60 61 62 256 257 258",
+        "1 6/1 6/2 6/3 6/4 6/5 30 31 32 33 34 35 36 37 38 60 61 62 64 256 257 258",
     ),
     ("release", "33 38 60 62 256 257"),
     ("receivers released", "33 38"),
@@ -102,7 +102,7 @@ const REFUSALS: [(&str, &str); 12] = [
     ),
     (
         "sender",
-        "1 6/1 6/6 6/7 30 31 32 33 34 38 40 41 42 43 44 45 46 47 48 49 62 63 256 257 258",
+        "1 6/1 6/6 6/7 30 31 32 33 34 38 40 41 42 43 44 45 46 47 48 49 62 63 64 256 257 258",
     ),
 ];
 
@@ -170,8 +170,8 @@ const SENDER_STATES: [[u8; 4]; 21] = [
 ];
 
 pub const FULL_TRAIN: &str = "256 segments of 255 octets handed over";
-pub const LATE_RECEPTION: &str = "readings within 3 of 2^64 - 1 - 300,000";
-pub const LATE_SUBMISSION: &str = "readings within 3 of 2^64 - 1 - 330,000";
+pub const LATE_RECEPTION: &str = "readings within 3 of 2^64 - 1 - the interval";
+pub const LATE_SUBMISSION: &str = "queued readings within 3 of 2^64 - 1 - the interval";
 pub const FULL_MAP: &str = "maps of 256 entries";
 pub const FULL_MAP_RECEIVED: &str = "maps of 256 entries with none missing";
 pub const LONG_MAP_GAPS: &str = "maps of 255 or 256 entries with some missing";
@@ -186,6 +186,25 @@ pub const LAST_RELEASED: &str = "releases at 2^64 - 1";
 pub const SHORT_AND_IMPOSSIBLE: &str = "60 and 62 both due";
 pub const IMPOSSIBLE_AND_CLOCK: &str = "62 and 33 both due";
 pub const CLOCK_AND_CLOSED: &str = "33 and 38 both due";
+pub const PROFILE_0: &str = "64 for profile 0";
+pub const PROFILE_3: &str = "64 for profile 3";
+pub const PROFILE_255: &str = "64 for profile 255";
+pub const IDENTITY_AND_PROFILE: &str = "30 and 64 both due";
+pub const SERVICE_AND_PROFILE: &str = "31 and 64 both due";
+pub const CODEC_AND_PROFILE: &str = "64 and a refusal of the codec both due";
+pub const PLAN_AND_PROFILE: &str = "64 and 40 both due";
+pub const MADE: &str = "machines made";
+pub const MADE_OTHERWISE: &str = "machines made under the other profile too";
+pub const NEITHER_RECEIVE: &str = "receive on records of neither profile";
+pub const NEITHER_ADVANCE: &str = "advance on records of neither profile";
+pub const NEITHER_CANCEL: &str = "cancel on records of neither profile";
+pub const NEITHER_RELEASE: &str = "release on records of neither profile";
+pub const NEITHER_TRAIN: &str = "train on records of neither profile";
+pub const NEITHER_SUBMITTED: &str = "submitted on records of neither profile";
+pub const NEITHER_ACCEPTED: &str = "accepted on records of neither profile";
+pub const NEITHER_LOWER_FAILED: &str = "lower_failed on records of neither profile";
+pub const NEITHER_RESPONSE: &str = "receive_response on records of neither profile";
+pub const NEITHER_AND_CLOCK: &str = "calls on records of neither profile with 33 due too";
 pub const FROZEN_SENDER: &str = "senders of frozen plans";
 pub const FULL_SENDER: &str = "senders of 256 segments";
 pub const EVEN_SENDER: &str = "senders of even plans";
@@ -321,7 +340,27 @@ fn converter_inputs() -> impl Iterator<Item = (&'static str, &'static str)> {
     inputs.flat_map(|name| CONVERTERS.map(|area| (area, name)))
 }
 
-const INPUTS: [(&str, &str); 69] = [
+/// What a run has to see of both machines: makings under other profiles, and records of neither.
+fn profile_inputs() -> impl Iterator<Item = (&'static str, &'static str)> {
+    let inputs = [
+        PROFILE_0,
+        PROFILE_3,
+        PROFILE_255,
+        IDENTITY_AND_PROFILE,
+        SERVICE_AND_PROFILE,
+        CODEC_AND_PROFILE,
+        MADE_OTHERWISE,
+        NEITHER_ADVANCE,
+        NEITHER_CANCEL,
+        NEITHER_AND_CLOCK,
+    ];
+    let machines = ["receiver", "sender"];
+    inputs
+        .into_iter()
+        .flat_map(move |name| machines.map(|area| (area, name)))
+}
+
+const INPUTS: [(&str, &str); 77] = [
     (FROM_BEGIN_ONLY, BUDGET_BY_CONTINUE),
     (FROM_BEGIN_ONLY, BUDGET_BY_END),
     (FROM_BEGIN_ONLY, BUDGET_BY_SEVERAL),
@@ -364,6 +403,7 @@ const INPUTS: [(&str, &str); 69] = [
     ("receiver", LONG_STORE),
     ("receiver", WIPED),
     ("receiver", EXCEPTIONS_HANDED),
+    ("receiver", NEITHER_RECEIVE),
     ("release", RELEASED),
     ("release", FULL_RELEASED),
     ("release", LONG_RELEASED),
@@ -371,8 +411,10 @@ const INPUTS: [(&str, &str); 69] = [
     ("release", SHORT_AND_IMPOSSIBLE),
     ("release", IMPOSSIBLE_AND_CLOCK),
     ("release", CLOCK_AND_CLOSED),
+    ("release", NEITHER_RELEASE),
     ("train", EXCEPTIONS_HANDED),
     ("train", FULL_MAP_RECEIVED),
+    ("train", NEITHER_TRAIN),
     ("train", WORD_EDGES[0].1),
     ("train", WORD_EDGES[1].1),
     ("train", WORD_EDGES[2].1),
@@ -381,6 +423,11 @@ const INPUTS: [(&str, &str); 69] = [
     ("train", WORD_EDGES[5].1),
     ("sender", LATE_SUBMISSION),
     ("sender", FULL_MAP),
+    ("sender", PLAN_AND_PROFILE),
+    ("sender", NEITHER_SUBMITTED),
+    ("sender", NEITHER_ACCEPTED),
+    ("sender", NEITHER_LOWER_FAILED),
+    ("sender", NEITHER_RESPONSE),
     ("sender", FROZEN_SENDER),
     ("sender", FULL_SENDER),
     ("sender", EVEN_SENDER),
@@ -502,6 +549,7 @@ impl Table {
         }
         let windows = DELIVERED_WINDOWS.map(|name| (IN_ORDER, name));
         let inputs = INPUTS.into_iter().chain(windows).chain(converter_inputs());
+        let inputs = inputs.chain(profile_inputs());
         for (name, input) in inputs.filter(|(name, _)| runs(name)) {
             if !area(name).inputs.contains_key(input) {
                 missing.push(format!("{name}: {input}"));

@@ -95,7 +95,7 @@ fn list(record: &mut Record) {
     let random = &mut record.random;
     let mut opening = any_opening(random);
     if random.once_in(6) {
-        opening.reading = LAST_READING - random.pick(&[0, 1, 700, 300_000]);
+        opening.reading = LAST_READING - random.pick(&[0, 1, 700, REASSEMBLY_MS]);
     }
     if random.once_in(6) {
         opening.maximum = random.pick(&[0, 3, 40, 300]);

@@ -55,6 +55,11 @@ pub trait Checker: Default + 'static {
     fn any_other(&self, _: &mut Random, _: &Case) -> Option<Case> {
         None
     }
+
+    /// A probe of a record of neither profile, to make before a call, now and then.
+    fn any_neither(&self, _: &mut Random, _: &Case) -> Option<Case> {
+        None
+    }
 }
 
 /// A list of calls on which the two sides disagree, and how.
@@ -79,6 +84,7 @@ struct Watch<C> {
     random: Random,
     /// The probes of change requests are chosen apart, so that the others of a seed stay as they are without them.
     others: Random,
+    neither: Random,
     list: Vec<Case>,
     sheet: Shared,
 }
@@ -112,6 +118,13 @@ impl<C: Checker> Watch<C> {
         }
     }
 
+    fn make_neither(&mut self, original: &mut C::Original, next: &Case) {
+        if !self.stopped() {
+            let neither = self.checker.any_neither(&mut self.neither, next);
+            self.make(original, neither);
+        }
+    }
+
     fn make(&mut self, original: &mut C::Original, probe: Option<Case>) {
         let Some(probe) = probe else {
             return;
@@ -136,6 +149,7 @@ impl<C: Checker> Watcher<C::Original> for Watch<C> {
                 input: input.to_vec(),
             };
             self.make_probe(original, Some(&next));
+            self.make_neither(original, &next);
         }
     }
 
@@ -167,6 +181,7 @@ pub fn watch<C: Checker>(sheet: &Shared, seed: u64, make: impl Fn(&mut Recorder<
         checker: C::default(),
         random: Random::new(seed ^ 0x5eed),
         others: Random::new(seed ^ 0xc0de),
+        neither: Random::new(seed ^ 0x0b11),
         list: Vec::new(),
         sheet: sheet.clone(),
     };

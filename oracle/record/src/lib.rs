@@ -5,6 +5,7 @@ pub mod list;
 pub mod make;
 pub mod octets;
 pub mod play;
+pub mod profiles;
 pub mod random;
 pub mod refusals;
 pub mod tokens;

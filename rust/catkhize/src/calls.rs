@@ -105,6 +105,7 @@ mod c {
             protocol_octet: u8,
             transaction: u8,
             version: u8,
+            profile: u8,
             maximum: u64,
             reading: u64,
         ) -> u32;
@@ -185,6 +186,7 @@ mod c {
             message: *const u8,
             message_octets: usize,
             version: u8,
+            profile: u8,
             number: u64,
             reading: u64,
         ) -> u32;
@@ -453,12 +455,13 @@ pub fn delivery_order(segments: u8, number: u64, output: &mut [u8]) -> u32 {
     ))
 }
 
-/// Writes a new receiver to `record`.
+/// Writes a new receiver of a profile, 1 or 2, to `record`.
 pub fn receiver_new(
     record: &mut [u8],
     from: Origin,
     transaction: u8,
     version: u8,
+    profile: u8,
     maximum: u64,
     reading: u64,
 ) -> u32 {
@@ -472,6 +475,7 @@ pub fn receiver_new(
         from.octet,
         transaction,
         version,
+        profile,
         maximum,
         reading,
     ))
@@ -589,13 +593,15 @@ pub fn receiver_train(
     ))
 }
 
-/// Writes a new sender to `record`.
+/// Writes a new sender of a profile, 1 or 2, to `record`.
+#[allow(clippy::too_many_arguments)]
 pub fn sender_new(
     record: &mut [u8],
     from: Origin,
     plan: &[u8],
     message: &[u8],
     version: u8,
+    profile: u8,
     number: u64,
     reading: u64,
 ) -> u32 {
@@ -612,6 +618,7 @@ pub fn sender_new(
         message.as_ptr(),
         message.len(),
         version,
+        profile,
         number,
         reading,
     ))

@@ -2,13 +2,15 @@
 //! Rattle crates.
 //!
 //! The core is a port of a Rust program; types that it has too have its names. A call that is refused gives a [`Refusal`] with document
-//! 01's number (docs/01-scope.md; 25, 26 and 28 are docs/02-change-requests.md's). No call panics, whatever it is given. [`calls`] has the
+//! 01's number (docs/01-scope.md; 25, 26, 28 and 64 are docs/02-change-requests.md's). No call panics, whatever it is given. [`calls`] has the
 //! entries as they are, on octets.
 //!
 //! # Numbers that several calls take
 //!
 //! - A version is the protocol version under which segments and responses are written and read: 1 is Pv1, 5 is Pv5, and 0 is refused. From
 //!   1 on all are treated alike, but that a response has a support list from 5 on only.
+//! - A profile says how long a machine waits, which is its own interval: [`PROFILE_1`] is the source's, [`PROFILE_2`] waits less. It is chosen
+//!   when the machine is made and fixed after that; any other number is refused with [`Refusal::PROFILE`].
 //! - The payload budget is how many octets one encoded segment may have. The ceiling is the source's MAX_DATA_PAYLOAD_OCTETS, the most
 //!   octets that a payload of the layer below has room for; the budget is at most that.
 //! - A reading (`monotonic_ms`) is now, in milliseconds of a clock that never falls. Nothing happens between calls: at a machine's deadline
@@ -45,8 +47,8 @@
 //! else {
 //!     panic!("200 octets are more than 64");
 //! };
-//! let mut sender = Sender::try_new(peer, protocol, &plan, 1, 7, 1_000)?;
-//! let mut receiver = Receiver::try_new(peer, protocol, 5, 1, 65_280, 1_000)?;
+//! let mut sender = Sender::try_new(peer, protocol, &plan, 1, PROFILE_1, 7, 1_000)?;
+//! let mut receiver = Receiver::try_new(peer, protocol, 5, 1, PROFILE_1, 65_280, 1_000)?;
 //! let mut output = [0; layout::ENCODING];
 //! let mut now = 1_000;
 //! let mut rebuilt = Vec::new();
@@ -82,7 +84,7 @@ mod response;
 mod segment;
 mod sender;
 
-pub use link::{HigherLayerProtocol, MobileIdentity};
+pub use link::{HigherLayerProtocol, MobileIdentity, PROFILE_1, PROFILE_2};
 pub use orders::{delivery_order, delivery_orders};
 pub use plan::{Dialect, MessagePlan, SegmentedMessage, plan_even, plan_message};
 pub use receiver::{Receiver, ReceiverState, Reception, Reported, Train};

@@ -41,7 +41,7 @@ pub fn delivery_order(segments: u8, number: u64) -> Result<Vec<u8>, Refusal> {
 /// let orders = delivery_orders(4)?;
 /// assert_eq!(orders.len(), 6);
 /// for order in orders {
-///     let mut receiver = Receiver::try_new(peer, protocol, 2, 1, 10, 0)?;
+///     let mut receiver = Receiver::try_new(peer, protocol, 2, 1, PROFILE_1, 10, 0)?;
 ///     for (place, sequence_number) in (1..).zip(&order) {
 ///         let segment = plan.segment(*sequence_number).unwrap();
 ///         let mut output = [0; layout::ENCODING];

@@ -170,7 +170,7 @@ impl<'a> SegmentedMessage<'a> {
     /// let plan = SegmentedMessage::try_from_frozen(&segments, b"abc", 7, 1, 7)?;
     /// assert_eq!(plan.acknowledgment_window(), AcknowledgmentWindow::Exceptions);
     /// let peer = MobileIdentity { kind: 0, width: 34, value: 1 };
-    /// let mut sender = Sender::try_new(peer, HigherLayerProtocol::Segmented(0), &plan, 1, 9, 0)?;
+    /// let mut sender = Sender::try_new(peer, HigherLayerProtocol::Segmented(0), &plan, 1, PROFILE_1, 9, 0)?;
     /// while let Some(submission) = sender.submission()? {
     ///     sender.submitted(&submission, 10, 10)?;
     ///     sender.accepted(&submission, 10)?;

@@ -9,7 +9,7 @@ use crate::{
 /// ```
 /// use catkhize::*;
 /// let peer = MobileIdentity { kind: 0, width: 34, value: 1 };
-/// let receiver = Receiver::try_new(peer, HigherLayerProtocol::Segmented(0), 0, 1, 100, 0)?;
+/// let receiver = Receiver::try_new(peer, HigherLayerProtocol::Segmented(0), 0, 1, PROFILE_1, 100, 0)?;
 /// assert_eq!(receiver.state(), ReceiverState::AwaitingBegin);
 /// # Ok::<(), Refusal>(())
 /// ```
@@ -37,7 +37,7 @@ pub enum ReceiverState {
 /// use catkhize::*;
 /// let peer = MobileIdentity { kind: 0, width: 34, value: 1 };
 /// let protocol = HigherLayerProtocol::Segmented(0);
-/// let mut receiver = Receiver::try_new(peer, protocol, 0, 1, 100, 0)?;
+/// let mut receiver = Receiver::try_new(peer, protocol, 0, 1, PROFILE_1, 100, 0)?;
 /// // The Begin asks for a response to every fourth segment.
 /// receiver.receive(peer, protocol, &decode_segment(&[0, 0, 1, b'a', 0x20, 0x08], 1)?, 0)?;
 /// let reception = receiver.receive(peer, protocol, &decode_segment(&[8, 3, 1, b'd'], 1)?, 0)?;
@@ -72,7 +72,7 @@ impl Reported {
 /// use catkhize::*;
 /// let peer = MobileIdentity { kind: 0, width: 34, value: 1 };
 /// let protocol = HigherLayerProtocol::Segmented(0);
-/// let mut receiver = Receiver::try_new(peer, protocol, 0, 1, 100, 0)?;
+/// let mut receiver = Receiver::try_new(peer, protocol, 0, 1, PROFILE_1, 100, 0)?;
 /// // The Begin asks for a response to every fourth segment; it is not the fourth.
 /// let reception = receiver.receive(peer, protocol, &decode_segment(&[0, 0, 1, b'a', 0x20, 0x08], 1)?, 0)?;
 /// assert_eq!(reception, Reception { response: None, message: None });
@@ -96,7 +96,7 @@ pub struct Reception<'a> {
 /// use catkhize::*;
 /// let peer = MobileIdentity { kind: 0, width: 34, value: 1 };
 /// let protocol = HigherLayerProtocol::Segmented(0);
-/// let mut receiver = Receiver::try_new(peer, protocol, 0, 1, 100, 0)?;
+/// let mut receiver = Receiver::try_new(peer, protocol, 0, 1, PROFILE_1, 100, 0)?;
 /// let train = receiver.receive_train(peer, protocol, &[0, 0, 1, b'a', 16, 1, 1, b'b'], &[4, 4], 5)?;
 /// assert_eq!((train.received, train.stopped), (2, None));
 /// assert_eq!(train.message(), Some(b"ab".as_slice()));
@@ -136,7 +136,7 @@ impl<'a> Train<'a> {
 /// use catkhize::*;
 /// let peer = MobileIdentity { kind: 0, width: 34, value: 1 };
 /// let protocol = HigherLayerProtocol::Segmented(0);
-/// let mut receiver = Receiver::try_new(peer, protocol, 0, 1, 65_280, 1_000)?;
+/// let mut receiver = Receiver::try_new(peer, protocol, 0, 1, PROFILE_1, 65_280, 1_000)?;
 /// receiver.receive(peer, protocol, &decode_segment(&[0, 0, 1, b'a'], 1)?, 1_000)?;
 /// assert_eq!(receiver.deadline_monotonic_ms(), Some(301_000));
 /// let reception = receiver.receive(peer, protocol, &decode_segment(&[16, 1, 1, b'b'], 1)?, 1_200)?;
@@ -162,12 +162,31 @@ fn found(reception: &[u8]) -> Option<Found> {
 }
 
 impl Receiver {
-    /// A receiver of messages of up to `maximum_message_octets` from one peer in one transaction.
+    /// A receiver of messages of up to `maximum_message_octets` from one peer in one transaction. The profile, [`PROFILE_1`](crate::PROFILE_1) or
+    /// [`PROFILE_2`](crate::PROFILE_2), says how long it waits for the next segment, which is its own interval, and is fixed after this.
+    ///
+    /// The refusals, in this order: [`Refusal::IDENTITY`], [`Refusal::SERVICE`], [`Refusal::PROFILE`] for a profile that is neither 1 nor 2,
+    /// [`Refusal::VERSION`], [`Refusal::FIELD_TRANSACTION_ID`].
+    ///
+    /// ```
+    /// use catkhize::*;
+    /// let peer = MobileIdentity { kind: 0, width: 34, value: 1 };
+    /// let protocol = HigherLayerProtocol::Segmented(0);
+    /// let mut receiver = Receiver::try_new(peer, protocol, 0, 1, PROFILE_2, 100, 1_000)?;
+    /// receiver.receive(peer, protocol, &decode_segment(&[0, 0, 0, 0x20, 0x08], 1)?, 1_000)?;
+    /// assert_eq!(receiver.deadline_monotonic_ms(), Some(121_000));
+    /// assert_eq!(receiver.advance(120_999)?, None);
+    /// let reported = receiver.advance(121_000)?.unwrap();
+    /// assert_eq!(reported.response.status, Status::InterSegmentTimeout);
+    /// assert_eq!(Receiver::try_new(peer, protocol, 8, 0, 3, 100, 1_000).err(), Some(Refusal::PROFILE));
+    /// # Ok::<(), Refusal>(())
+    /// ```
     pub fn try_new(
         peer: MobileIdentity,
         protocol: HigherLayerProtocol,
         transaction_id: u8,
         version: u8,
+        profile: u8,
         maximum_message_octets: u64,
         monotonic_ms: u64,
     ) -> Result<Self, Refusal> {
@@ -177,6 +196,7 @@ impl Receiver {
             calls::Origin::new(peer, protocol),
             transaction_id,
             version,
+            profile,
             maximum_message_octets,
             monotonic_ms,
         );
@@ -200,7 +220,7 @@ impl Receiver {
     /// use catkhize::*;
     /// let peer = MobileIdentity { kind: 0, width: 34, value: 1 };
     /// let protocol = HigherLayerProtocol::Segmented(0);
-    /// let mut receiver = Receiver::try_new(peer, protocol, 0, 1, 100, 0)?;
+    /// let mut receiver = Receiver::try_new(peer, protocol, 0, 1, PROFILE_1, 100, 0)?;
     /// receiver.receive(peer, protocol, &decode_segment(&[0, 0, 0], 1)?, 0)?;
     /// let late = receiver.receive(peer, protocol, &decode_segment(&[8, 1, 0], 1)?, 300_001);
     /// assert_eq!(late, Err(Refusal::CLOSED));
@@ -241,7 +261,7 @@ impl Receiver {
     /// use catkhize::*;
     /// let peer = MobileIdentity { kind: 0, width: 34, value: 1 };
     /// let protocol = HigherLayerProtocol::Segmented(0);
-    /// let mut receiver = Receiver::try_new(peer, protocol, 0, 1, 100, 0)?;
+    /// let mut receiver = Receiver::try_new(peer, protocol, 0, 1, PROFILE_1, 100, 0)?;
     /// // The Begin asks for a response to every fourth segment; the third comes last.
     /// let segments: [&[u8]; 6] = [
     ///     &[0, 0, 1, b'a', 0x20, 0x08], &[8, 1, 1, b'b'], &[8, 3, 1, b'd'], &[8, 4, 1, b'e'], &[16, 5, 1, b'f'], &[8, 2, 1, b'c'],
@@ -339,7 +359,7 @@ impl Receiver {
     /// use catkhize::*;
     /// let peer = MobileIdentity { kind: 0, width: 34, value: 1 };
     /// let protocol = HigherLayerProtocol::Segmented(0);
-    /// let mut receiver = Receiver::try_new(peer, protocol, 0, 1, 100, 0)?;
+    /// let mut receiver = Receiver::try_new(peer, protocol, 0, 1, PROFILE_1, 100, 0)?;
     /// receiver.receive(peer, protocol, &decode_segment(&[0, 0, 0, 0x20, 0x08], 1)?, 0)?;
     /// let Reported { response, missing } = receiver.advance(300_000)?.unwrap();
     /// assert_eq!(response.status, Status::InterSegmentTimeout);
@@ -361,7 +381,7 @@ impl Receiver {
     /// ```
     /// use catkhize::*;
     /// let peer = MobileIdentity { kind: 0, width: 34, value: 1 };
-    /// let mut receiver = Receiver::try_new(peer, HigherLayerProtocol::Segmented(0), 0, 1, 100, 0)?;
+    /// let mut receiver = Receiver::try_new(peer, HigherLayerProtocol::Segmented(0), 0, 1, PROFILE_1, 100, 0)?;
     /// receiver.cancel(1)?;
     /// assert_eq!(receiver.state(), ReceiverState::Canceled);
     /// assert_eq!(receiver.cancel(1), Err(Refusal::CLOSED));
@@ -385,7 +405,7 @@ impl Receiver {
     /// use catkhize::*;
     /// let peer = MobileIdentity { kind: 0, width: 34, value: 1 };
     /// let protocol = HigherLayerProtocol::Segmented(0);
-    /// let mut receiver = Receiver::try_new(peer, protocol, 0, 1, 100, 0)?;
+    /// let mut receiver = Receiver::try_new(peer, protocol, 0, 1, PROFILE_1, 100, 0)?;
     /// receiver.receive(peer, protocol, &decode_segment(&[0, 0, 1, b'a'], 1)?, 0)?;
     /// assert_eq!(receiver.release(0), Err(Refusal::CLOSED));
     /// let end = decode_segment(&[16, 1, 1, b'b'], 1)?;
@@ -421,6 +441,19 @@ impl Receiver {
             4 => ReceiverState::Expired,
             _ => ReceiverState::Canceled,
         }
+    }
+
+    /// The profile that it was made with.
+    ///
+    /// ```
+    /// use catkhize::*;
+    /// let peer = MobileIdentity { kind: 0, width: 34, value: 1 };
+    /// let receiver = Receiver::try_new(peer, HigherLayerProtocol::Segmented(0), 0, 1, PROFILE_2, 100, 0)?;
+    /// assert_eq!(receiver.profile(), PROFILE_2);
+    /// # Ok::<(), Refusal>(())
+    /// ```
+    pub fn profile(&self) -> u8 {
+        Take::at(&self.record, layout::receiver::PROFILE).take8()
     }
 
     /// The reading at which [`advance`](Self::advance) is to be called, if no segment comes before.

@@ -1,8 +1,8 @@
 use std::error::Error;
 use std::fmt;
 
-/// Why a call was refused: document 01's refusal n/m, 25, 26 or 28 of document 02 (requests 2026-09, 2026-06 and 2026-10), or one of the
-/// exports' own (256 to 258).
+/// Why a call was refused: document 01's refusal n/m, 25, 26, 28 or 64 of document 02 (requests 2026-09, 2026-06, 2026-10 and 2026-11), or one
+/// of the exports' own (256 to 258).
 ///
 /// A refused call changes nothing, but in the late cases that [the crate](crate#refused-calls) names.
 ///
@@ -90,7 +90,7 @@ refusals! {
     TRANSACTION_ID = 32 / 0, "TransactionId";
     /// A reading below the last one.
     CLOCK_REGRESSION = 33 / 0, "ClockRegression";
-    /// No deadline fits after this reading.
+    /// No deadline fits after this reading: it is above 2^64 - 1 less the machine's own interval.
     TIME_OVERFLOW = 34 / 0, "TimeOverflow";
     /// A segment with unparsed octets.
     UNPARSED_SEGMENT = 35 / 0, "UnparsedSegment";
@@ -124,10 +124,20 @@ refusals! {
     STORE_TOO_SHORT = 60 / 0, "Store";
     /// An output that is too short.
     OUTPUT_TOO_SHORT = 61 / 0, "Output";
-    /// A record that no list of calls reaches.
+    /// A record that no list of calls reaches, such as one of neither profile.
     IMPOSSIBLE_STATE = 62 / 0, "ImpossibleState";
     /// A new submission would need ticket 2^64.
     TICKETS = 63 / 0, "Tickets";
+    /// A machine was to be made with a profile that is neither 1 nor 2.
+    ///
+    /// ```
+    /// use catkhize::*;
+    /// let peer = MobileIdentity { kind: 0, width: 34, value: 1 };
+    /// let new = |profile| Receiver::try_new(peer, HigherLayerProtocol::Segmented(0), 0, 1, profile, 100, 0).err();
+    /// assert_eq!([0, 1, 2, 3].map(new), [Some(Refusal::PROFILE), None, None, Some(Refusal::PROFILE)]);
+    /// assert_eq!(Refusal::PROFILE.to_string(), "refusal 64: Profile");
+    /// ```
+    PROFILE = 64 / 0, "Profile";
     /// A buffer is shorter than its layout.
     BUFFER_TOO_SHORT = 256 / 0, "BufferTooShort";
     /// A buffer that is read spells nothing.

@@ -110,7 +110,7 @@ impl SenderState {
 /// let MessagePlan::Segmented(plan) = plan_message(b"0123456", 6, 0, AcknowledgmentWindow::Last, 1, 6)? else {
 ///     panic!("7 octets are more than 6")
 /// };
-/// let sender = Sender::try_new(peer, HigherLayerProtocol::Segmented(0), &plan, 1, 9, 0)?;
+/// let sender = Sender::try_new(peer, HigherLayerProtocol::Segmented(0), &plan, 1, PROFILE_1, 9, 0)?;
 /// let submission = sender.submission()?.unwrap();
 /// assert_eq!((submission.number, submission.ticket, submission.index), (9, 0, 0));
 /// assert_eq!(Some(submission.segment), plan.segment(0));
@@ -145,7 +145,7 @@ pub struct Submission<'a> {
 /// let MessagePlan::Segmented(plan) = plan_message(b"0123456", 6, 0, AcknowledgmentWindow::Prohibited, 1, 6)? else {
 ///     panic!("7 octets are more than 6")
 /// };
-/// let mut sender = Sender::try_new(peer, protocol, &plan, 1, 1, 0)?;
+/// let mut sender = Sender::try_new(peer, protocol, &plan, 1, PROFILE_1, 1, 0)?;
 /// while let Some(submission) = sender.submission()? {
 ///     sender.submitted(&submission, 10, 10)?;
 ///     sender.accepted(&submission, 10)?;
@@ -161,12 +161,31 @@ pub struct Sender<'a> {
 }
 
 impl<'a> Sender<'a> {
-    /// A sender of a planned message. No two senders have the same number at the same time.
+    /// A sender of a planned message. No two senders have the same number at the same time. The profile, [`PROFILE_1`](crate::PROFILE_1) or
+    /// [`PROFILE_2`](crate::PROFILE_2), says how long it waits after a submission, which is its own interval, and is fixed after this.
+    ///
+    /// The refusals, in this order: [`Refusal::IDENTITY`], [`Refusal::SERVICE`], [`Refusal::PROFILE`] for a profile that is neither 1 nor 2,
+    /// [`Refusal::PLAN`], [`Refusal::VERSION`].
+    ///
+    /// ```
+    /// # use catkhize::*;
+    /// # let peer = MobileIdentity { kind: 0, width: 34, value: 1 };
+    /// # let protocol = HigherLayerProtocol::Segmented(0);
+    /// # let MessagePlan::Segmented(plan) = plan_message(b"0123456", 6, 0, AcknowledgmentWindow::Prohibited, 1, 6)? else { panic!() };
+    /// let mut sender = Sender::try_new(peer, protocol, &plan, 1, PROFILE_2, 1, 0)?;
+    /// sender.submitted(&sender.submission()?.unwrap(), 1_000, 1_000)?;
+    /// assert_eq!(sender.deadline_monotonic_ms(), Some(151_000));
+    /// assert_eq!(sender.advance(150_999)?, SenderState::AwaitingAccept);
+    /// assert_eq!(sender.advance(151_000)?, SenderState::Failed(SenderFailure::SegmentInterval));
+    /// assert_eq!(Sender::try_new(peer, protocol, &plan, 0, 3, 1, 0).err(), Some(Refusal::PROFILE));
+    /// # Ok::<(), Refusal>(())
+    /// ```
     pub fn try_new(
         peer: MobileIdentity,
         protocol: HigherLayerProtocol,
         plan: &SegmentedMessage<'a>,
         version: u8,
+        profile: u8,
         number: u64,
         monotonic_ms: u64,
     ) -> Result<Self, Refusal> {
@@ -178,6 +197,7 @@ impl<'a> Sender<'a> {
             plan.record(),
             message,
             version,
+            profile,
             number,
             monotonic_ms,
         );
@@ -203,7 +223,7 @@ impl<'a> Sender<'a> {
     /// # let peer = MobileIdentity { kind: 0, width: 34, value: 1 };
     /// # let protocol = HigherLayerProtocol::Segmented(0);
     /// # let MessagePlan::Segmented(plan) = plan_message(b"0123456", 6, 0, AcknowledgmentWindow::Prohibited, 1, 6)? else { panic!() };
-    /// let mut sender = Sender::try_new(peer, protocol, &plan, 1, 1, 0)?;
+    /// let mut sender = Sender::try_new(peer, protocol, &plan, 1, PROFILE_1, 1, 0)?;
     /// sender.submitted(&sender.submission()?.unwrap(), 0, 0)?;
     /// assert_eq!(sender.advance(330_000)?, SenderState::Failed(SenderFailure::SegmentInterval));
     /// # Ok::<(), Refusal>(())
@@ -224,7 +244,7 @@ impl<'a> Sender<'a> {
     /// # let peer = MobileIdentity { kind: 0, width: 34, value: 1 };
     /// # let protocol = HigherLayerProtocol::Segmented(0);
     /// # let MessagePlan::Segmented(plan) = plan_message(b"0123456", 6, 0, AcknowledgmentWindow::Last, 1, 6)? else { panic!() };
-    /// let mut sender = Sender::try_new(peer, protocol, &plan, 1, 1, 0)?;
+    /// let mut sender = Sender::try_new(peer, protocol, &plan, 1, PROFILE_1, 1, 0)?;
     /// let submission = sender.submission()?.unwrap();
     /// assert_eq!(sender.submitted(&submission, 5, 7)?, SenderState::AwaitingAccept);
     /// assert_eq!(sender.deadline_monotonic_ms(), Some(330_005));
@@ -257,7 +277,7 @@ impl<'a> Sender<'a> {
     /// # let peer = MobileIdentity { kind: 0, width: 34, value: 1 };
     /// # let protocol = HigherLayerProtocol::Segmented(0);
     /// # let MessagePlan::Segmented(plan) = plan_message(b"0123456", 6, 0, AcknowledgmentWindow::Last, 1, 6)? else { panic!() };
-    /// let mut sender = Sender::try_new(peer, protocol, &plan, 1, 1, 0)?;
+    /// let mut sender = Sender::try_new(peer, protocol, &plan, 1, PROFILE_1, 1, 0)?;
     /// let submission = sender.submission()?.unwrap();
     /// assert_eq!(sender.accepted(&submission, 1), Err(Refusal::STALE_SUBMISSION));
     /// sender.submitted(&submission, 1, 1)?;
@@ -289,7 +309,7 @@ impl<'a> Sender<'a> {
     /// # let peer = MobileIdentity { kind: 0, width: 34, value: 1 };
     /// # let protocol = HigherLayerProtocol::Segmented(0);
     /// # let MessagePlan::Segmented(plan) = plan_message(b"0123456", 6, 0, AcknowledgmentWindow::Last, 1, 6)? else { panic!() };
-    /// let mut sender = Sender::try_new(peer, protocol, &plan, 1, 1, 0)?;
+    /// let mut sender = Sender::try_new(peer, protocol, &plan, 1, PROFILE_1, 1, 0)?;
     /// let submission = sender.submission()?.unwrap();
     /// sender.submitted(&submission, 1, 1)?;
     /// let state = sender.lower_failed(&submission, LowerLayerFailure::TimedOut, 2)?;
@@ -330,7 +350,7 @@ impl<'a> Sender<'a> {
     /// # let peer = MobileIdentity { kind: 0, width: 34, value: 1 };
     /// # let protocol = HigherLayerProtocol::Segmented(0);
     /// # let MessagePlan::Segmented(plan) = plan_message(b"0123456", 6, 0, AcknowledgmentWindow::Last, 1, 6)? else { panic!() };
-    /// let mut sender = Sender::try_new(peer, protocol, &plan, 1, 1, 0)?;
+    /// let mut sender = Sender::try_new(peer, protocol, &plan, 1, PROFILE_1, 1, 0)?;
     /// let response = Response {
     ///     transaction_id: 0,
     ///     status: Status::Continuing,
@@ -367,7 +387,7 @@ impl<'a> Sender<'a> {
     /// # let peer = MobileIdentity { kind: 0, width: 34, value: 1 };
     /// # let protocol = HigherLayerProtocol::Segmented(0);
     /// # let MessagePlan::Segmented(plan) = plan_message(b"0123456", 6, 0, AcknowledgmentWindow::Last, 1, 6)? else { panic!() };
-    /// let mut sender = Sender::try_new(peer, protocol, &plan, 1, 1, 5)?;
+    /// let mut sender = Sender::try_new(peer, protocol, &plan, 1, PROFILE_1, 1, 5)?;
     /// assert_eq!(sender.cancel(4), Err(Refusal::CLOCK_REGRESSION));
     /// assert_eq!(sender.cancel(5)?, SenderState::Cancelled);
     /// # Ok::<(), Refusal>(())
@@ -400,6 +420,21 @@ impl<'a> Sender<'a> {
     pub fn state(&self) -> SenderState {
         SenderState::take(&mut Take::at(&self.record, layout::sender::STATE))
             .unwrap_or(SenderState::Cancelled)
+    }
+
+    /// The profile that it was made with.
+    ///
+    /// ```
+    /// # use catkhize::*;
+    /// # let peer = MobileIdentity { kind: 0, width: 34, value: 1 };
+    /// # let protocol = HigherLayerProtocol::Segmented(0);
+    /// # let MessagePlan::Segmented(plan) = plan_message(b"0123456", 6, 0, AcknowledgmentWindow::Last, 1, 6)? else { panic!() };
+    /// let sender = Sender::try_new(peer, protocol, &plan, 1, PROFILE_2, 1, 0)?;
+    /// assert_eq!(sender.profile(), PROFILE_2);
+    /// # Ok::<(), Refusal>(())
+    /// ```
+    pub fn profile(&self) -> u8 {
+        Take::at(&self.record, layout::sender::PROFILE).take8()
     }
 
     /// The reading at which [`advance`](Self::advance) is to be called, if nothing comes before.

@@ -1,4 +1,4 @@
-//! Calls every entry, with right buffers and wrong ones, and the typed layer with whatever its types allow.
+//! Calls every entry, with right buffers and wrong ones, and the typed layer with whatever its types allow; the machines of both profiles.
 
 use catkhize::calls::{self, Origin};
 use catkhize::*;
@@ -11,6 +11,10 @@ const PEER: MobileIdentity = MobileIdentity {
 };
 const PROTOCOL: HigherLayerProtocol = HigherLayerProtocol::CarrierSpecific(0xc1);
 const MESSAGE: &[u8] = b"0123456";
+/// The profiles, each with how long a receiver and a sender of it wait.
+const PROFILES: [(u8, u64, u64); 2] = [(1, 300_000, 330_000), (2, 120_000, 150_000)];
+/// Numbers that are no profile.
+const NEITHER: [u8; 9] = [0, 3, 4, 127, 128, 129, 130, 254, 255];
 
 fn filled(octets: usize) -> Vec<u8> {
     vec![FILLING; octets]
@@ -53,18 +57,27 @@ fn plan(window: u8) -> Vec<u8> {
     plan
 }
 
-fn receiver(maximum: u64) -> Vec<u8> {
+fn receiver_of(profile: u8, maximum: u64) -> Vec<u8> {
     let mut record = filled(layout::RECEIVER);
-    let given = calls::receiver_new(&mut record, origin(), 2, 1, maximum, 100);
+    let given = calls::receiver_new(&mut record, origin(), 2, 1, profile, maximum, 100);
+    assert_eq!(given, 0);
+    record
+}
+
+fn receiver(maximum: u64) -> Vec<u8> {
+    receiver_of(PROFILE_1, maximum)
+}
+
+fn sender_of(profile: u8, window: u8) -> Vec<u8> {
+    let mut record = filled(layout::SENDER);
+    let plan = plan(window);
+    let given = calls::sender_new(&mut record, origin(), &plan, MESSAGE, 1, profile, 9, 100);
     assert_eq!(given, 0);
     record
 }
 
 fn sender(window: u8) -> Vec<u8> {
-    let mut record = filled(layout::SENDER);
-    let given = calls::sender_new(&mut record, origin(), &plan(window), MESSAGE, 1, 9, 100);
-    assert_eq!(given, 0);
-    record
+    sender_of(PROFILE_1, window)
 }
 
 #[test]
@@ -172,7 +185,8 @@ fn even_plans() {
         panic!("8 octets are more than 6");
     };
     assert!(plan.record() == record);
-    let mut sender = Sender::try_new(PEER, PROTOCOL, &plan, 1, 9, 0).expect("a planner's plan");
+    let mut sender =
+        Sender::try_new(PEER, PROTOCOL, &plan, 1, PROFILE_1, 9, 0).expect("a planner's plan");
     let mut sent: Vec<&[u8]> = Vec::new();
     while let Ok(Some(submission)) = sender.submission() {
         sent.push(submission.segment.segment_data);
@@ -244,7 +258,7 @@ fn exceptions_kept() {
     record[planned] = AcknowledgmentWindow::Exceptions as u8;
     let new = |plan: &[u8]| {
         let mut sender = filled(layout::SENDER);
-        let given = calls::sender_new(&mut sender, origin(), plan, MESSAGE, 1, 9, 100);
+        let given = calls::sender_new(&mut sender, origin(), plan, MESSAGE, 1, PROFILE_1, 9, 100);
         assert_eq!(untouched(&sender), given != 0);
         Given::new(given)
     };
@@ -566,8 +580,10 @@ fn converted_exchange() {
             [b"\x12\x02\x046789", stated].concat(),
         ];
         assert_eq!(plan.acknowledgment_window(), window);
-        let mut sender = Sender::try_new(PEER, PROTOCOL, &plan, 1, 9, 0).expect("a frozen plan");
-        let mut receiver = Receiver::try_new(PEER, PROTOCOL, 2, 1, 10, 0).expect("a right peer");
+        let mut sender =
+            Sender::try_new(PEER, PROTOCOL, &plan, 1, PROFILE_1, 9, 0).expect("a frozen plan");
+        let mut receiver =
+            Receiver::try_new(PEER, PROTOCOL, 2, 1, PROFILE_1, 10, 0).expect("a right peer");
         for (index, octets) in train.iter().enumerate() {
             let submission = sender.submission().ok().flatten().expect("an offer");
             let mut output = filled(layout::ENCODING);
@@ -705,7 +721,7 @@ fn orders_received() {
         let answers = window != AcknowledgmentWindow::Prohibited;
         for number in 0..120 {
             let order = delivery_order(6, number).expect("one of 120");
-            let made = Receiver::try_new(PEER, PROTOCOL, 2, 1, 22, 0);
+            let made = Receiver::try_new(PEER, PROTOCOL, 2, 1, PROFILE_1, 22, 0);
             let mut receiver = made.expect("a right peer");
             for (place, sequence) in (1..).zip(&order) {
                 let octets = &train[usize::from(*sequence)];
@@ -749,10 +765,10 @@ fn receivers() {
         Refusal::BEGIN_REQUIRED
     );
     let (given, record, store, _) = receive(segment(2, 0, 0), b"ab", 100);
-    assert_eq!((given, record[23]), (0, 1));
+    assert_eq!((given, record[layout::receiver::STATE]), (0, 1));
     assert!(store.starts_with(b"ab") && untouched(&store[2..]));
     let (given, record, _, output) = receive(segment(2, 1, 2), b"c", 200);
-    assert_eq!((given, record[23]), (0, 2));
+    assert_eq!((given, record[layout::receiver::STATE]), (0, 2));
     assert!(output.starts_with(b"abc") && untouched(&output[3..]));
     let message = &answer[layout::reception::MESSAGE..];
     assert_eq!((message[0], number(&message[1..])), (1, 3));
@@ -776,10 +792,10 @@ fn receivers_in_time() {
     assert_eq!(calls::receiver_cancel(&mut record, &mut store, 200), 0);
     assert!(store[..layout::STORE].iter().all(|octet| *octet == 0));
     assert!(untouched(&store[layout::STORE..]));
-    record[33] = 1;
+    record[layout::receiver::STORED_OCTETS] = 1;
     let impossible = calls::receiver_cancel(&mut record, &mut store, 200);
     assert_eq!(refusal(impossible), Refusal::IMPOSSIBLE_STATE);
-    record[0] = 2;
+    record[0] = 1;
     let none = calls::receiver_cancel(&mut record, &mut store, 200);
     assert_eq!(refusal(none), Refusal::BUFFER_SPELLS_NONE);
 }
@@ -836,7 +852,7 @@ fn receivers_released() {
     record[layout::receiver::STORED_OCTETS] = 1;
     let impossible = calls::receiver_release(&mut record, &mut store, 200);
     assert_eq!(refusal(impossible), Refusal::IMPOSSIBLE_STATE);
-    record[0] = 2;
+    record[0] = 1;
     let none = calls::receiver_release(&mut record, &mut store, 200);
     assert_eq!(refusal(none), Refusal::BUFFER_SPELLS_NONE);
 }
@@ -907,7 +923,8 @@ fn trains_go_on() {
         (5, vec![10]),
     ] {
         let (octets, lengths) = train_of(window, &sequences);
-        let mut one = Receiver::try_new(PEER, PROTOCOL, 2, 1, 100, 0).expect("a right peer");
+        let mut one =
+            Receiver::try_new(PEER, PROTOCOL, 2, 1, PROFILE_1, 100, 0).expect("a right peer");
         let mut single = one.clone();
         let train = one.receive_train(PEER, PROTOCOL, &octets, &lengths, 100);
         let train = train.expect("right buffers");
@@ -939,14 +956,16 @@ fn trains_go_on() {
         assert_eq!(one.record(), single.record());
     }
     // A failure that is not answered, and then what is refused; a refusal in the middle; no segments.
-    let mut receiver = Receiver::try_new(PEER, PROTOCOL, 2, 1, 100, 0).expect("a right peer");
+    let mut receiver =
+        Receiver::try_new(PEER, PROTOCOL, 2, 1, PROFILE_1, 100, 0).expect("a right peer");
     let (octets, lengths) = train_of(0, &[0, 255, 1]);
     let train = receiver.receive_train(PEER, PROTOCOL, &octets, &lengths, 100);
     let train = train.expect("right buffers");
     assert_eq!((train.received, train.stopped), (2, Some(Refusal::CLOSED)));
     assert!(train.receptions.is_empty());
     assert_eq!(receiver.state(), ReceiverState::Failed(Status::Aborted));
-    let mut receiver = Receiver::try_new(PEER, PROTOCOL, 2, 1, 100, 0).expect("a right peer");
+    let mut receiver =
+        Receiver::try_new(PEER, PROTOCOL, 2, 1, PROFILE_1, 100, 0).expect("a right peer");
     let (octets, lengths) = train_of(1, &[0, 1, 2, 3, 4, 5]);
     let train = receiver.receive_train(PEER, PROTOCOL, &octets[..24], &lengths, 100);
     let train = train.expect("right buffers");
@@ -1000,9 +1019,13 @@ fn end(message_length: Option<u16>) -> SegmentKind {
     }
 }
 
-/// The receiver of transaction 2, at version 5.
+/// A receiver of transaction 2, at version 5.
+fn new_receiver_of(profile: u8) -> Receiver {
+    Receiver::try_new(PEER, PROTOCOL, 2, 5, profile, 65_280, 0).expect("a right peer")
+}
+
 fn new_receiver() -> Receiver {
-    Receiver::try_new(PEER, PROTOCOL, 2, 5, 65_280, 0).expect("a right peer")
+    new_receiver_of(PROFILE_1)
 }
 
 /// Receives a segment; what is said beside the response, if there is one.
@@ -1165,27 +1188,29 @@ fn figures_of_failures() {
     );
 }
 
-/// The figures beside timeout answers, written by hand.
+/// The figures beside timeout answers, written by hand, at the receiver's own deadline.
 #[test]
 fn figures_of_timeouts() {
     use AcknowledgmentWindow::{Exceptions, Last, Prohibited};
-    let timeout = |window, sequences: &[u8], last| {
-        let mut receiver = new_receiver();
-        receive_all(&mut receiver, window, sequences.iter().copied(), last);
-        assert_eq!(receiver.advance(299_999), Ok(None));
-        let reported = receiver.advance(300_000).expect("a right reading");
-        reported.map(figures)
-    };
-    // The end is not known: the map goes one entry past the highest.
-    assert_eq!(timeout(Last, &[], 9), Some((TIMEOUT, 2, 1, 1)));
-    assert_eq!(timeout(Exceptions, &[1, 2, 4], 9), Some((TIMEOUT, 6, 2, 3)));
     let all: Vec<u8> = (1..=254).collect();
-    assert_eq!(timeout(Last, &all, 255), Some((TIMEOUT, 256, 1, 255)));
-    // It is known.
-    assert_eq!(timeout(Last, &[9, 1], 9), Some((TIMEOUT, 10, 7, 2)));
-    assert_eq!(timeout(Last, &[255], 255), Some((TIMEOUT, 256, 254, 1)));
-    // No response.
-    assert_eq!(timeout(Prohibited, &[1, 3], 9), None);
+    for (profile, waits, _) in PROFILES {
+        let timeout = |window, sequences: &[u8], last| {
+            let mut receiver = new_receiver_of(profile);
+            receive_all(&mut receiver, window, sequences.iter().copied(), last);
+            assert_eq!(receiver.advance(waits - 1), Ok(None));
+            let reported = receiver.advance(waits).expect("a right reading");
+            reported.map(figures)
+        };
+        // The end is not known: the map goes one entry past the highest.
+        assert_eq!(timeout(Last, &[], 9), Some((TIMEOUT, 2, 1, 1)));
+        assert_eq!(timeout(Exceptions, &[1, 2, 4], 9), Some((TIMEOUT, 6, 2, 3)));
+        assert_eq!(timeout(Last, &all, 255), Some((TIMEOUT, 256, 1, 255)));
+        // It is known.
+        assert_eq!(timeout(Last, &[9, 1], 9), Some((TIMEOUT, 10, 7, 2)));
+        assert_eq!(timeout(Last, &[255], 255), Some((TIMEOUT, 256, 254, 1)));
+        // No response.
+        assert_eq!(timeout(Prohibited, &[1, 3], 9), None);
+    }
 }
 
 /// A REPLY's figures in its octets. Slot 255 held without a known end, which only a made up record has: 256 entries.
@@ -1200,14 +1225,15 @@ fn figures_in_octets() {
         answer.truncate(layout::REPLY);
         answer
     };
-    let mut receiver = new_receiver();
+    let [(profile, waits, _), _] = PROFILES;
+    let mut receiver = new_receiver_of(profile);
     let said = receive_all(&mut receiver, AcknowledgmentWindow::Last, [7, 255], 255);
     assert_eq!(said, [(CONTINUING, 256, 253, 1)]);
     let mut record = receiver.record().to_vec();
-    assert_eq!(record[28..30], [1, 255]);
-    record[28..30].fill(0);
-    assert_eq!(advance(&mut record, 299_999), [0; layout::REPLY]);
-    let answer = advance(&mut record, 300_000);
+    assert_eq!(record[29..31], [1, 255]);
+    record[29..31].fill(0);
+    assert_eq!(advance(&mut record, waits - 1), [0; layout::REPLY]);
+    let answer = advance(&mut record, waits);
     assert_eq!(answer[..5], [1, 2, TIMEOUT as u8, 1, 0]);
     assert_eq!(answer[42..], [0, 253, 0, 1]);
     // Entries 0, 7 and 255.
@@ -1336,13 +1362,13 @@ fn empty_buffers() {
         calls::plan_segment(&[], 0, none),
         calls::try_from_frozen(&[], 0, &[], &[], 0, 0, 0, none),
         calls::convert(&[], 0, &[], &[], 0, 0, 0, 9, none),
-        calls::receiver_new(none, origin(), 0, 0, 0, 0),
+        calls::receiver_new(none, origin(), 0, 0, 0, 0, 0),
         calls::receiver_receive(none, a, b, origin(), &[], &[], 0, 0, c),
         calls::receiver_advance(none, a, 0, b),
         calls::receiver_cancel(none, a, 0),
         calls::receiver_release(none, a, 0),
         calls::receiver_train(none, a, b, origin(), &[], &[], 0, c),
-        calls::sender_new(none, origin(), &[], &[], 0, 0, 0),
+        calls::sender_new(none, origin(), &[], &[], 0, 0, 0, 0),
         calls::sender_advance(none, 0, a),
         calls::sender_cancel(none, 0, a),
         calls::sender_submitted(none, 0, 0, 0, 0, a),
@@ -1401,8 +1427,8 @@ fn odd_arguments() {
         assert_eq!(plan.convert(read, 0, u64::MAX), Err(Refusal::VERSION));
     }
     assert_eq!(Dialect::from_number(2), None);
-    let mut receiver =
-        Receiver::try_new(PEER, PROTOCOL, 7, 1, u64::MAX, u64::MAX).expect("a right peer");
+    let mut receiver = Receiver::try_new(PEER, PROTOCOL, 7, 1, PROFILE_1, u64::MAX, u64::MAX)
+        .expect("a right peer");
     let decoded = DecodedSegment {
         segment,
         unparsed_octets: &long,
@@ -1426,7 +1452,8 @@ fn full_message() {
         panic!("256 segments");
     };
     assert_eq!(plan.count(), 256);
-    let mut receiver = Receiver::try_new(PEER, PROTOCOL, 6, 1, 65_280, 0).expect("a right peer");
+    let mut receiver =
+        Receiver::try_new(PEER, PROTOCOL, 6, 1, PROFILE_1, 65_280, 0).expect("a right peer");
     let order = std::iter::once(0).chain((1..=255).rev());
     for (reading, index) in (0..).zip(order) {
         let segment = plan.segment(index).expect("256 segments");
@@ -1484,24 +1511,41 @@ fn frozen_exceptions() -> SegmentedMessage<'static> {
 /// The refusals that change a receiver: past the deadline under Prohibited, and an unheld sequence when Complete.
 #[test]
 fn late_receivers() {
-    let new = || Receiver::try_new(PEER, PROTOCOL, 0, 1, 100, 0).expect("a right peer");
-    let mut receiver = new();
-    let begin = receiver.receive(PEER, PROTOCOL, &decoded(&[0, 0, 0]), 0);
-    assert!(begin.is_ok());
-    let late = receiver.receive(PEER, PROTOCOL, &decoded(&[8, 1, 0]), 300_001);
-    assert_eq!(late, Err(Refusal::CLOSED));
-    assert_eq!(receiver.state(), ReceiverState::Expired);
+    for (profile, waits, _) in PROFILES {
+        let new =
+            || Receiver::try_new(PEER, PROTOCOL, 0, 1, profile, 100, 0).expect("a right peer");
+        let mut receiver = new();
+        let begin = receiver.receive(PEER, PROTOCOL, &decoded(&[0, 0, 0]), 0);
+        assert!(begin.is_ok());
+        let late = receiver.receive(PEER, PROTOCOL, &decoded(&[8, 1, 0]), waits + 1);
+        assert_eq!(late, Err(Refusal::CLOSED));
+        assert_eq!(receiver.state(), ReceiverState::Expired);
 
-    let mut receiver = new();
-    for (octets, reading) in [([0, 0, 0], 0), ([16, 1, 0], 1)] {
-        let taken = receiver.receive(PEER, PROTOCOL, &decoded(&octets), reading);
-        assert!(taken.is_ok());
+        let mut receiver = new();
+        for (octets, reading) in [([0, 0, 0], 0), ([16, 1, 0], 1)] {
+            let taken = receiver.receive(PEER, PROTOCOL, &decoded(&octets), reading);
+            assert!(taken.is_ok());
+        }
+        let unheld = receiver.receive(PEER, PROTOCOL, &decoded(&[8, 2, 0]), 9);
+        assert_eq!(unheld, Err(Refusal::CLOSED));
+        assert_eq!(receiver.state(), ReceiverState::Complete);
+        assert_eq!(receiver.advance(8), Err(Refusal::CLOCK_REGRESSION));
+        assert_eq!(receiver.advance(9), Ok(None));
     }
-    let unheld = receiver.receive(PEER, PROTOCOL, &decoded(&[8, 2, 0]), 9);
-    assert_eq!(unheld, Err(Refusal::CLOSED));
-    assert_eq!(receiver.state(), ReceiverState::Complete);
-    assert_eq!(receiver.advance(8), Err(Refusal::CLOCK_REGRESSION));
-    assert_eq!(receiver.advance(9), Ok(None));
+}
+
+fn offered<'a>(sender: &Sender<'a>) -> Submission<'a> {
+    sender.submission().ok().flatten().expect("an offer")
+}
+
+/// A response to the three segments of the message.
+fn response(status: Status, received: [bool; 3]) -> Response {
+    Response {
+        transaction_id: 2,
+        status,
+        acknowledgments: AcknowledgmentMap::try_new(&received).expect("three entries"),
+        optional_services_support: None,
+    }
 }
 
 /// The refusals that change a sender: the late 44, 42 and 38.
@@ -1509,47 +1553,606 @@ fn late_receivers() {
 fn late_senders() {
     let failed = SenderState::Failed(SenderFailure::SegmentInterval);
     let prohibited = planned(AcknowledgmentWindow::Prohibited);
-    let new = || Sender::try_new(PEER, PROTOCOL, &prohibited, 1, 9, 0).expect("a right plan");
-    let offered = |sender: &Sender<'static>| sender.submission().ok().flatten().expect("an offer");
-
-    let mut sender = new();
-    let first = offered(&sender);
-    assert!(sender.submitted(&first, 5, 5).is_ok());
-    assert_eq!(sender.accepted(&first, 6), Ok(SenderState::Prepared));
-    let late = sender.submitted(&offered(&sender), 330_005, 330_006);
-    assert_eq!((late, sender.state()), (Err(Refusal::RECEIPT_TIME), failed));
-
-    let mut sender = new();
-    assert!(sender.submitted(&first, 5, 5).is_ok());
-    let late = sender.accepted(&first, 330_005);
-    assert_eq!(
-        (late, sender.state()),
-        (Err(Refusal::STALE_SUBMISSION), failed)
-    );
-
-    let mut sender = new();
-    assert!(sender.submitted(&first, 5, 5).is_ok());
-    let late = sender.lower_failed(&first, LowerLayerFailure::TimedOut, 330_005);
-    assert_eq!(
-        (late, sender.state()),
-        (Err(Refusal::STALE_SUBMISSION), failed)
-    );
-
     let exceptions = frozen_exceptions();
-    let made = Sender::try_new(PEER, PROTOCOL, &exceptions, 1, 9, 0);
-    let mut sender = made.expect("a right plan");
-    for _ in 0..3 {
-        let submission = offered(&sender);
-        assert!(sender.submitted(&submission, 5, 5).is_ok());
-        assert!(sender.accepted(&submission, 5).is_ok());
+    for (profile, _, waits) in PROFILES {
+        let of = |plan| {
+            Sender::try_new(PEER, PROTOCOL, plan, 1, profile, 9, 0).expect("a planner's plan")
+        };
+        let deadline = 5 + waits;
+        let mut sender = of(&prohibited);
+        let first = offered(&sender);
+        assert!(sender.submitted(&first, 5, 5).is_ok());
+        assert_eq!(sender.accepted(&first, 6), Ok(SenderState::Prepared));
+        let late = sender.submitted(&offered(&sender), deadline, deadline + 1);
+        assert_eq!((late, sender.state()), (Err(Refusal::RECEIPT_TIME), failed));
+
+        let stale = Err(Refusal::STALE_SUBMISSION);
+        let mut sender = of(&prohibited);
+        assert!(sender.submitted(&first, 5, 5).is_ok());
+        let late = sender.accepted(&first, deadline);
+        assert_eq!((late, sender.state()), (stale, failed));
+
+        let mut sender = of(&prohibited);
+        assert!(sender.submitted(&first, 5, 5).is_ok());
+        let late = sender.lower_failed(&first, LowerLayerFailure::TimedOut, deadline);
+        assert_eq!((late, sender.state()), (stale, failed));
+
+        let mut sender = of(&exceptions);
+        for _ in 0..3 {
+            let submission = offered(&sender);
+            assert!(sender.submitted(&submission, 5, 5).is_ok());
+            assert!(sender.accepted(&submission, 5).is_ok());
+        }
+        let response = response(Status::Continuing, [true; 3]);
+        let late = sender.receive_response(PEER, PROTOCOL, &response, 0, deadline + 1);
+        let elapsed = SenderState::Complete(Completion::ExceptionIntervalElapsed);
+        assert_eq!((late, sender.state()), (Err(Refusal::CLOSED), elapsed));
     }
-    let response = Response {
-        transaction_id: 2,
-        status: Status::Continuing,
-        acknowledgments: AcknowledgmentMap::try_new(&[true; 3]).expect("three entries"),
-        optional_services_support: None,
+}
+
+/// The constants, 64 in words, and what a machine in octets has of its profile: the octet, and the size and the version of its layout.
+#[test]
+fn profiles() {
+    assert_eq!(
+        [PROFILE_1, PROFILE_2],
+        PROFILES.map(|(profile, ..)| profile)
+    );
+    assert_eq!((layout::RECEIVER, layout::RECEIVER_VERSION), (3931, 2));
+    assert_eq!((layout::PLAN, layout::PLAN_VERSION), (5958, 1));
+    assert_eq!((layout::SENDER, layout::SENDER_VERSION), (6131, 2));
+    assert_eq!(
+        (layout::receiver::PROFILE, layout::sender::PROFILE),
+        (15, 14)
+    );
+    assert_eq!(refusal(16_384), Refusal::PROFILE);
+    assert_eq!(Refusal::PROFILE.to_string(), "refusal 64: Profile");
+    assert_eq!(format!("{:?}", refusal(16_384)), "Refusal(64 Profile)");
+    assert!(!Refusal::PROFILE.is_own());
+
+    let prohibited = planned(AcknowledgmentWindow::Prohibited);
+    assert_eq!(prohibited.record()[0], 1);
+    for (profile, ..) in PROFILES {
+        let mut record = filled(layout::RECEIVER + 9);
+        let given = calls::receiver_new(&mut record, origin(), 2, 6, profile, 99, 0x1234);
+        assert_eq!(given, 0);
+        let mut expected = vec![0; 3931];
+        expected[..16].copy_from_slice(&[2, 1, 34, 0, 0, 0, 0, 0, 0, 0, 5, 1, 0xc1, 2, 6, profile]);
+        expected[23] = 99;
+        expected[57..59].copy_from_slice(&[0x12, 0x34]);
+        assert!(record[..3931] == expected && untouched(&record[3931..]));
+        let made = Receiver::try_new(PEER, PROTOCOL, 2, 6, profile, 99, 0x1234);
+        let made = made.expect("a right peer");
+        assert!(made.record() == expected);
+        assert_eq!(made.profile(), profile);
+
+        let mut record = filled(layout::SENDER + 9);
+        let plan = prohibited.record();
+        let given = calls::sender_new(&mut record, origin(), plan, MESSAGE, 6, profile, 77, 0x1234);
+        assert_eq!(given, 0);
+        let mut expected = vec![0; 174];
+        expected[..15].copy_from_slice(&[2, 1, 34, 0, 0, 0, 0, 0, 0, 0, 5, 1, 0xc1, 6, profile]);
+        expected[22] = 77;
+        // Submission 0 is there, prepared at this reading, which is the last one too.
+        expected[27] = 1;
+        expected[43..45].copy_from_slice(&[0x12, 0x34]);
+        expected[164..166].copy_from_slice(&[0x12, 0x34]);
+        expected.extend_from_slice(&plan[1..]);
+        assert!(record[..6131] == expected && untouched(&record[6131..]));
+        let made = Sender::try_new(PEER, PROTOCOL, &prohibited, 6, profile, 77, 0x1234);
+        let made = made.expect("a planner's plan");
+        assert!(made.record() == expected);
+        assert_eq!(made.profile(), profile);
+    }
+}
+
+/// What makings are refused with: 256, 257 (the sender's plan), 258, 30, 31, 64, then the codec's, of a sender 40 before it. Each before the next, for
+/// any profile.
+#[test]
+fn makings_refused() {
+    let right = origin();
+    let unserved = Origin {
+        protocol: 2,
+        ..right
     };
-    let late = sender.receive_response(PEER, PROTOCOL, &response, 0, 330_006);
-    let elapsed = SenderState::Complete(Completion::ExceptionIntervalElapsed);
-    assert_eq!((late, sender.state()), (Err(Refusal::CLOSED), elapsed));
+    let no_peer = Origin {
+        value: 0,
+        ..unserved
+    };
+    let unnamed = Origin {
+        protocol: 3,
+        ..no_peer
+    };
+    let (last, mut wrong) = (plan(4), plan(4));
+    wrong[0] = 2;
+    for profile in 0..=255 {
+        let known = profile == PROFILE_1 || profile == PROFILE_2;
+        let or_64 = |refusal| if known { refusal } else { Refusal::PROFILE };
+        // Octets that RECEIVER lacks, origin, transaction, version.
+        let rows = [
+            (1, unnamed, 8, 0, Refusal::BUFFER_TOO_SHORT),
+            (0, unnamed, 8, 0, Refusal::NUMBER_NAMES_NONE),
+            (0, no_peer, 8, 0, Refusal::IDENTITY),
+            (0, unserved, 8, 0, Refusal::SERVICE),
+            (0, right, 8, 0, or_64(Refusal::VERSION)),
+            (0, right, 2, 0, or_64(Refusal::VERSION)),
+            (0, right, 8, 1, or_64(Refusal::FIELD_TRANSACTION_ID)),
+        ];
+        for (lacks, from, transaction, version, expected) in rows {
+            let mut record = filled(layout::RECEIVER);
+            let place = &mut record[lacks..];
+            let given = calls::receiver_new(place, from, transaction, version, profile, 100, 0);
+            assert_eq!(refusal(given), expected, "profile {profile}");
+            assert!(untouched(&record));
+        }
+        let mut record = filled(layout::RECEIVER);
+        let given = calls::receiver_new(&mut record, right, 2, 1, profile, 100, 0);
+        assert_eq!(
+            Given::new(given).done().err(),
+            (!known).then_some(Refusal::PROFILE)
+        );
+        assert_eq!(untouched(&record), !known);
+        // Octets that SENDER lacks, plan, origin, octets of the message, version.
+        let rows = [
+            (1, &wrong, unnamed, 6, 0, Refusal::BUFFER_TOO_SHORT),
+            (0, &wrong, unnamed, 6, 0, Refusal::BUFFER_SPELLS_NONE),
+            (0, &last, unnamed, 6, 0, Refusal::NUMBER_NAMES_NONE),
+            (0, &last, no_peer, 6, 0, Refusal::IDENTITY),
+            (0, &last, unserved, 6, 0, Refusal::SERVICE),
+            (0, &last, right, 6, 0, or_64(Refusal::PLAN)),
+            (0, &last, right, 6, 1, or_64(Refusal::PLAN)),
+            (0, &last, right, 7, 0, or_64(Refusal::VERSION)),
+        ];
+        for (lacks, plan, from, octets, version, expected) in rows {
+            let mut record = filled(layout::SENDER);
+            let (place, message) = (&mut record[lacks..], &MESSAGE[..octets]);
+            let given = calls::sender_new(place, from, plan, message, version, profile, 9, 0);
+            assert_eq!(refusal(given), expected, "profile {profile}");
+            assert!(untouched(&record));
+        }
+        let mut record = filled(layout::SENDER);
+        let given = calls::sender_new(&mut record, right, &last, MESSAGE, 1, profile, 9, 0);
+        assert_eq!(
+            Given::new(given).done().err(),
+            (!known).then_some(Refusal::PROFILE)
+        );
+        assert_eq!(untouched(&record), !known);
+    }
+}
+
+/// A receiver's own interval: after a Begin, a repeat, another segment, one of a train, and one after a timeout answer; before, at and past the
+/// deadline.
+#[test]
+fn receivers_wait() {
+    const EVERY16: [u8; 6] = [0, 0, 1, b'a', 0x20, 0x18];
+    const PROHIBITED: [u8; 4] = [0, 0, 1, b'a'];
+    const LATER: [u8; 3] = [8, 1, 0];
+    for (profile, waits, _) in PROFILES {
+        let begun = |octets: &[u8]| {
+            let made = Receiver::try_new(PEER, PROTOCOL, 0, 1, profile, 100, 500);
+            let mut receiver = made.expect("a right peer");
+            assert_eq!(receiver.deadline_monotonic_ms(), None);
+            take(&mut receiver, octets, 1_000);
+            assert_eq!(receiver.deadline_monotonic_ms(), Some(1_000 + waits));
+            receiver
+        };
+        let mut receiver = begun(&EVERY16);
+        for (octets, reading) in [
+            (EVERY16.as_slice(), 1_001),
+            (&LATER, 1_003),
+            (&LATER, 1_007),
+        ] {
+            take(&mut receiver, octets, reading);
+            assert_eq!(receiver.deadline_monotonic_ms(), Some(reading + waits));
+        }
+        let train = receiver.receive_train(PEER, PROTOCOL, &[8, 2, 0], &[3], 1_010);
+        assert_eq!(train.map(|train| train.received), Ok(1));
+        let deadline = 1_010 + waits;
+        assert_eq!(receiver.deadline_monotonic_ms(), Some(deadline));
+        assert_eq!(receiver.advance(deadline - 1), Ok(None));
+        assert_eq!(receiver.deadline_monotonic_ms(), Some(deadline));
+        let reported = receiver.advance(deadline).expect("a right reading");
+        assert_eq!(reported.map(figures), Some((TIMEOUT, 4, 1, 3)));
+        assert_eq!(receiver.deadline_monotonic_ms(), None);
+        take(&mut receiver, &LATER, 2 * deadline);
+        assert_eq!(receiver.deadline_monotonic_ms(), Some(2 * deadline + waits));
+        assert_eq!(receiver.profile(), profile);
+
+        let (deadline, behind) = (1_000 + waits, 1_000 + 2 * waits);
+        let expired = ReceiverState::Expired;
+        for (begin, refusal, state) in [
+            (
+                EVERY16.as_slice(),
+                Refusal::TIMER_DUE,
+                ReceiverState::Receiving,
+            ),
+            (&PROHIBITED, Refusal::CLOSED, expired),
+        ] {
+            let mut receiver = begun(begin);
+            take(&mut receiver, &LATER, deadline);
+            assert_eq!(receiver.deadline_monotonic_ms(), Some(behind));
+            let late = receiver.receive(PEER, PROTOCOL, &decoded(&LATER), behind + 1);
+            assert_eq!(late, Err(refusal));
+            assert_eq!(receiver.state(), state);
+        }
+        let mut receiver = begun(&PROHIBITED);
+        assert_eq!(receiver.advance(deadline - 1), Ok(None));
+        assert_eq!(receiver.state(), ReceiverState::Receiving);
+        assert_eq!(receiver.advance(deadline), Ok(None));
+        assert_eq!((receiver.state(), receiver.profile()), (expired, profile));
+    }
+}
+
+fn take(receiver: &mut Receiver, octets: &[u8], reading: u64) {
+    let reception = receiver.receive(PEER, PROTOCOL, &decoded(octets), reading);
+    assert_eq!(reception.map(|reception| reception.message), Ok(None));
+}
+
+/// A sender's own interval, from queued on; before and at the deadline.
+#[test]
+fn senders_wait() {
+    use SenderState::{AwaitingAccept, AwaitingResponse, Prepared};
+    let failed = SenderState::Failed(SenderFailure::SegmentInterval);
+    let last = planned(AcknowledgmentWindow::Last);
+    let prohibited = planned(AcknowledgmentWindow::Prohibited);
+    for (profile, _, waits) in PROFILES {
+        let begun = |plan| {
+            let made = Sender::try_new(PEER, PROTOCOL, plan, 1, profile, 9, 0);
+            let mut sender = made.expect("a planner's plan");
+            assert_eq!(sender.deadline_monotonic_ms(), None);
+            let first = offered(&sender);
+            assert_eq!(sender.submitted(&first, 10, 20), Ok(AwaitingAccept));
+            assert_eq!(sender.deadline_monotonic_ms(), Some(10 + waits));
+            (sender, first)
+        };
+        let (mut sender, first) = begun(&last);
+        assert_eq!(sender.accepted(&first, 30), Ok(Prepared));
+        assert_eq!(
+            sender.submitted(&offered(&sender), 40, 50),
+            Ok(AwaitingAccept)
+        );
+        assert_eq!(sender.deadline_monotonic_ms(), Some(40 + waits));
+        assert_eq!(sender.advance(39 + waits), Ok(AwaitingAccept));
+        assert_eq!(sender.advance(40 + waits), Ok(Prepared));
+        let again = offered(&sender);
+        assert_eq!((again.ticket, again.index), (2, 1));
+        assert_eq!(
+            (sender.deadline_monotonic_ms(), sender.profile()),
+            (None, profile)
+        );
+
+        let (mut sender, first) = begun(&prohibited);
+        assert_eq!(sender.advance(9 + waits), Ok(AwaitingAccept));
+        assert_eq!(sender.accepted(&first, 9 + waits), Ok(Prepared));
+        let second = offered(&sender);
+        assert_eq!(
+            sender.submitted(&second, 9 + waits, 9 + waits),
+            Ok(AwaitingAccept)
+        );
+        assert_eq!(sender.deadline_monotonic_ms(), Some(9 + 2 * waits));
+        let (mut sender, _) = begun(&prohibited);
+        assert_eq!(sender.advance(10 + waits), Ok(failed));
+        assert_eq!(
+            (sender.deadline_monotonic_ms(), sender.profile()),
+            (None, profile)
+        );
+
+        // Observed before the deadline that it sets, and at it.
+        for (observed, state) in [(9 + waits, AwaitingAccept), (10 + waits, Prepared)] {
+            let made = Sender::try_new(PEER, PROTOCOL, &last, 1, profile, 9, 0);
+            let mut sender = made.expect("a planner's plan");
+            assert_eq!(sender.submitted(&offered(&sender), 10, observed), Ok(state));
+        }
+
+        // Responses before the deadline, and at it.
+        let all = response(Status::Continuing, [true; 3]);
+        for (reading, state) in [(9 + waits, AwaitingResponse), (10 + waits, Prepared)] {
+            let made = Sender::try_new(PEER, PROTOCOL, &last, 1, profile, 9, 0);
+            let mut sender = made.expect("a planner's plan");
+            while let Ok(Some(submission)) = sender.submission() {
+                assert!(sender.submitted(&submission, 10, 10).is_ok());
+                assert!(sender.accepted(&submission, 10).is_ok());
+            }
+            let answered = sender.receive_response(PEER, PROTOCOL, &all, 0, reading);
+            assert_eq!(answered, Ok(state));
+        }
+    }
+}
+
+/// The last reading from which a machine's own interval fits, and 34 one past it, which changes nothing.
+#[test]
+fn latest_readings() {
+    let last = planned(AcknowledgmentWindow::Last);
+    for (profile, receiver_waits, sender_waits) in PROFILES {
+        let latest = u64::MAX - receiver_waits;
+        let made = Receiver::try_new(PEER, PROTOCOL, 0, 1, profile, 100, latest);
+        let mut receiver = made.expect("a right peer");
+        // A Begin, and its repeat.
+        for _ in 0..2 {
+            let before = receiver.record().to_vec();
+            let late = receiver.receive(PEER, PROTOCOL, &decoded(&[0, 0, 0]), latest + 1);
+            assert_eq!(late, Err(Refusal::TIME_OVERFLOW));
+            let train = receiver.receive_train(PEER, PROTOCOL, &[0, 0, 0], &[3], latest + 1);
+            assert_eq!(
+                train.map(|train| (train.received, train.stopped)),
+                Ok((0, Some(Refusal::TIME_OVERFLOW)))
+            );
+            assert!(receiver.record() == before);
+            take(&mut receiver, &[0, 0, 0], latest);
+            assert_eq!(receiver.deadline_monotonic_ms(), Some(u64::MAX));
+        }
+        let latest = u64::MAX - sender_waits;
+        let made = Sender::try_new(PEER, PROTOCOL, &last, 1, profile, 9, 0);
+        let mut sender = made.expect("a planner's plan");
+        let before = sender.record().to_vec();
+        let first = offered(&sender);
+        let late = sender.submitted(&first, latest + 1, latest + 1);
+        assert_eq!(late, Err(Refusal::TIME_OVERFLOW));
+        assert!(sender.record() == before);
+        let queued = sender.submitted(&first, latest, latest);
+        assert_eq!(queued, Ok(SenderState::AwaitingAccept));
+        assert_eq!(sender.deadline_monotonic_ms(), Some(u64::MAX));
+    }
+}
+
+/// A train whose second segment is lost, from a sender to a receiver of one profile: each waits as long as it is its own.
+#[test]
+fn exchange_of_profiles() {
+    let plan = planned(AcknowledgmentWindow::Last);
+    for (profile, receiver_waits, sender_waits) in PROFILES {
+        let made = Sender::try_new(PEER, PROTOCOL, &plan, 1, profile, 9, 0);
+        let mut sender = made.expect("a planner's plan");
+        let made = Receiver::try_new(PEER, PROTOCOL, 2, 1, profile, 7, 0);
+        let mut receiver = made.expect("a right peer");
+        let send = |sender: &mut Sender<'_>, receiver: &mut Receiver, lost, reading| {
+            let submission = offered(sender);
+            let mut output = filled(layout::ENCODING);
+            let written = submission.segment.encode(1, &mut output);
+            let octets = &output[..written.expect("a plan's segments")];
+            assert!(sender.submitted(&submission, reading, reading).is_ok());
+            assert!(sender.accepted(&submission, reading).is_ok());
+            if lost {
+                return None;
+            }
+            let reception = receiver.receive(PEER, PROTOCOL, &decoded(octets), reading);
+            let reception = reception.expect("it is taken");
+            let response = reception.response;
+            let whole = response.filter(|reported| reported.response.status == RECEIVED);
+            assert_eq!(reception.message, whole.map(|_| MESSAGE));
+            response
+        };
+        for (lost, reading) in [(false, 10), (true, 20), (false, 30)] {
+            let reported = send(&mut sender, &mut receiver, lost, reading);
+            let report = reported.map(figures);
+            assert_eq!(report, (reading == 30).then_some((CONTINUING, 3, 1, 1)));
+        }
+        assert_eq!(receiver.deadline_monotonic_ms(), Some(30 + receiver_waits));
+        assert_eq!(sender.deadline_monotonic_ms(), Some(30 + sender_waits));
+        let now = 30 + receiver_waits;
+        let reported = receiver
+            .advance(now)
+            .ok()
+            .flatten()
+            .expect("a timeout answer");
+        assert_eq!(figures(reported), (TIMEOUT, 3, 1, 1));
+        let state = sender.receive_response(PEER, PROTOCOL, &reported.response, 0, now);
+        assert_eq!(state, Ok(SenderState::Prepared));
+        let reported = send(&mut sender, &mut receiver, false, now).expect("the last segment");
+        assert_eq!(figures(reported), (RECEIVED, 3, 0, 256));
+        assert_eq!(sender.deadline_monotonic_ms(), Some(now + sender_waits));
+        let state = sender.receive_response(PEER, PROTOCOL, &reported.response, 0, now);
+        assert_eq!(state, Ok(SenderState::Complete(Completion::PeerReceived)));
+        assert_eq!((sender.profile(), receiver.profile()), (profile, profile));
+    }
+}
+
+/// What each call on a receiver gives, with a store and an output of so many octets. None of them changes record, store, output or answer, but for the
+/// answer of a train.
+fn receiver_calls(
+    record: &[u8],
+    store_octets: usize,
+    output_octets: usize,
+    reading: u64,
+) -> [u32; 5] {
+    let mut now = record.to_vec();
+    let mut store = filled(layout::STORE);
+    let mut output = filled(layout::STORE);
+    let mut answer = filled(layout::RECEPTION);
+    let mut train = filled(layout::TRAIN);
+    let (lent, room) = (&mut store[..store_octets], &mut output[..output_octets]);
+    let begin = segment(2, 0, 0);
+    let octets = [2, 0, 1, b'a'];
+    let given = [
+        calls::receiver_receive(
+            &mut now,
+            lent,
+            room,
+            origin(),
+            &begin,
+            b"a",
+            0,
+            reading,
+            &mut answer,
+        ),
+        calls::receiver_train(
+            &mut now,
+            lent,
+            room,
+            origin(),
+            &octets,
+            &[0, 4],
+            reading,
+            &mut train,
+        ),
+        calls::receiver_advance(&mut now, lent, reading, &mut answer),
+        calls::receiver_cancel(&mut now, lent, reading),
+        calls::receiver_release(&mut now, lent, reading),
+    ];
+    assert!(now == record && untouched(&store) && untouched(&output) && untouched(&answer));
+    let empty = !refusal(given[1]).is_own();
+    assert!(if empty {
+        train == [0; layout::TRAIN]
+    } else {
+        untouched(&train)
+    });
+    given
+}
+
+/// A receiver of neither profile: 62 from every call, behind 60 and 61 and before 33. With its own profile the same record gets 33.
+#[test]
+fn receivers_of_neither() {
+    let (all, short) = (layout::STORE, layout::STORE - 1);
+    let cancelled = |mut record: Vec<u8>| {
+        let mut store = filled(layout::STORE);
+        assert_eq!(calls::receiver_cancel(&mut record, &mut store, 100), 0);
+        record
+    };
+    let received = |mut record: Vec<u8>, segments: &[[u8; 15]]| {
+        let (mut store, mut output) = (filled(layout::STORE), filled(layout::STORE));
+        for segment in segments {
+            let mut answer = filled(layout::RECEPTION);
+            let given = calls::receiver_receive(
+                &mut record,
+                &mut store,
+                &mut output,
+                origin(),
+                segment,
+                b"a",
+                0,
+                100,
+                &mut answer,
+            );
+            assert_eq!(given, 0);
+        }
+        record
+    };
+    for (profile, ..) in PROFILES {
+        let new = receiver_of(profile, 65_280);
+        let (begin, end) = (segment(2, 0, 0), segment(2, 1, 2));
+        let records = [
+            (0, new.clone()),
+            (1, received(new.clone(), &[begin])),
+            (2, received(new.clone(), &[begin, end])),
+            (5, cancelled(new)),
+        ];
+        for (state, mut record) in records {
+            assert_eq!(record[layout::receiver::STATE], state);
+            assert_eq!(record[layout::receiver::PROFILE], profile);
+            let regress = receiver_calls(&record, all, all, 99);
+            assert_eq!(regress.map(refusal), [Refusal::CLOCK_REGRESSION; 5]);
+            for other in NEITHER {
+                record[layout::receiver::PROFILE] = other;
+                let calls = |store, output, reading| {
+                    receiver_calls(&record, store, output, reading).map(refusal)
+                };
+                let (impossible, output) = (Refusal::IMPOSSIBLE_STATE, Refusal::OUTPUT_TOO_SHORT);
+                for reading in [99, 100, u64::MAX] {
+                    assert_eq!(calls(all, all, reading), [impossible; 5]);
+                }
+                let first = [output, output, impossible, impossible, impossible];
+                assert_eq!(calls(all, short, 99), first);
+                assert_eq!(calls(short, short, 99), [Refusal::STORE_TOO_SHORT; 5]);
+            }
+        }
+    }
+}
+
+/// What each call on a sender gives. None of them changes record or answer.
+fn sender_calls(record: &[u8], reading: u64) -> [u32; 6] {
+    let mut now = record.to_vec();
+    let mut answer = filled(layout::STATE);
+    let mut response = [0; layout::RESPONSE];
+    response[..4].copy_from_slice(&[2, 0, 0, 3]);
+    let given = [
+        calls::sender_advance(&mut now, reading, &mut answer),
+        calls::sender_cancel(&mut now, reading, &mut answer),
+        calls::sender_submitted(&mut now, 9, 0, reading, reading, &mut answer),
+        calls::sender_accepted(&mut now, 9, 0, reading, &mut answer),
+        calls::sender_lower_failed(&mut now, 9, 0, 0, 0, reading, &mut answer),
+        calls::sender_receive_response(&mut now, origin(), &response, 0, reading, &mut answer),
+    ];
+    assert!(now == record && untouched(&answer));
+    given
+}
+
+/// What a sender offers, and the answer's octets.
+fn submission(record: &[u8]) -> (u32, Vec<u8>) {
+    let mut answer = filled(layout::SUBMISSION);
+    (calls::sender_submission(record, &mut answer), answer)
+}
+
+/// A sender of neither profile: 62 from every call, before 33, but what it offers is as it was. With its own profile the same record gets 33.
+#[test]
+fn senders_of_neither() {
+    let mut state = filled(layout::STATE);
+    for (profile, ..) in PROFILES {
+        let prepared = sender_of(profile, 4);
+        let mut submitted = prepared.clone();
+        let given = calls::sender_submitted(&mut submitted, 9, 0, 100, 100, &mut state);
+        assert_eq!((given, state[0]), (0, 1));
+        let mut sent = submitted.clone();
+        assert_eq!(calls::sender_accepted(&mut sent, 9, 0, 100, &mut state), 0);
+        for ticket in [1, 2] {
+            let given = calls::sender_submitted(&mut sent, 9, ticket, 100, 100, &mut state);
+            assert_eq!(given, 0);
+            assert_eq!(
+                calls::sender_accepted(&mut sent, 9, ticket, 100, &mut state),
+                0
+            );
+        }
+        assert_eq!(state[0], 2);
+        let mut closed = prepared.clone();
+        let given = calls::sender_cancel(&mut closed, 100, &mut state);
+        assert_eq!((given, state[0]), (0, 5));
+        for mut record in [prepared, submitted, sent, closed] {
+            assert_eq!(record[layout::sender::PROFILE], profile);
+            let regress = sender_calls(&record, 99);
+            assert_eq!(regress.map(refusal), [Refusal::CLOCK_REGRESSION; 6]);
+            let offer = submission(&record);
+            for other in NEITHER {
+                record[layout::sender::PROFILE] = other;
+                for reading in [99, 100, u64::MAX] {
+                    let given = sender_calls(&record, reading);
+                    assert_eq!(given.map(refusal), [Refusal::IMPOSSIBLE_STATE; 6]);
+                }
+                assert_eq!(submission(&record), offer);
+            }
+        }
+    }
+}
+
+/// Other versions of the layouts, and records as they were before 2026-11, without a profile: 257 from every call, in buffers of their own size 256.
+#[test]
+fn former_records() {
+    let former =
+        |record: &[u8], profile| [&[1], &record[1..profile], &record[profile + 1..]].concat();
+    let none = Refusal::BUFFER_SPELLS_NONE;
+    let short = Refusal::BUFFER_TOO_SHORT;
+    for (profile, ..) in PROFILES {
+        let judge_receiver = |record: &[u8], expected| {
+            for store in [0, layout::STORE] {
+                let given = receiver_calls(record, store, store, 100);
+                assert_eq!(given.map(refusal), [expected; 5]);
+            }
+        };
+        let judge_sender = |record: &[u8], expected| {
+            assert_eq!(sender_calls(record, 100).map(refusal), [expected; 6]);
+            let (given, answer) = submission(record);
+            assert_eq!(refusal(given), expected);
+            assert!(untouched(&answer));
+        };
+        let (mut receiver, mut sender) = (receiver_of(profile, 65_280), sender_of(profile, 4));
+        for version in [0, 1, 3, 130, 255] {
+            (receiver[0], sender[0]) = (version, version);
+            judge_receiver(&receiver, none);
+            judge_sender(&sender, none);
+        }
+        let mut receiver = former(&receiver, layout::receiver::PROFILE);
+        let mut sender = former(&sender, layout::sender::PROFILE);
+        judge_receiver(&receiver, short);
+        judge_sender(&sender, short);
+        receiver.push(FILLING);
+        sender.push(FILLING);
+        judge_receiver(&receiver, none);
+        judge_sender(&sender, none);
+    }
 }

@@ -1,19 +1,22 @@
-//! Frozen trains under Exceptions, and converted ones, from a sender to a receiver: what the sender offers is encoded, decoded and received, singly
-//! and as a train, and what the receiver answers goes to the sender. Under Exceptions it answers timeouts and failures, and neither the message nor
-//! a repeat.
+//! Frozen trains under Exceptions, converted ones, and trains under each profile, from a sender to a receiver: what the sender offers is encoded,
+//! decoded and received, singly and as a train, and what the receiver answers goes to the sender. Under Exceptions it answers timeouts and failures,
+//! and neither the message nor a repeat.
+
+mod profiles;
 
 use self::By::{Singly, Train};
 use crate::dialects::{self, BOTH, EMPTY, MOST, ROOM, SERVED, TWO, WINDOWS};
 use crate::exceptions::{ALL, Cutting, SIX, THREE};
 use crate::octets::{FILL, PAST, Segment, at_front, difference, filled, head, pattern, stated};
+use crate::profiles::{ONE, Profile};
 use crate::receiver::arrivals::brings;
 use crate::receiver::bench::{Lent, Reported, answer, reported};
-use crate::receiver::record::{self, Record};
+use crate::receiver::record::Record;
 use crate::receiver::rows::{self, Call, Kind, Map, Outcome, Row, TRANSACTION};
 use crate::sender::bench::{
-    EXCEPTION_INTERVAL_ELAPSED, INTERVAL, LOWER_LAYER_ACCEPTED, ORIGIN, OWN, PEER_RECEIVED,
-    Response, Sent, VERSION, awaiting_accept, awaiting_response, case, ended, marks, peer_failed,
-    prepared, try_new,
+    EXCEPTION_INTERVAL_ELAPSED, LOWER_LAYER_ACCEPTED, ORIGIN, OWN, PEER_RECEIVED, Response, Sent,
+    VERSION, awaiting_accept, awaiting_response, case, ended, marks, peer_failed, prepared,
+    try_new_under,
 };
 use crate::sender::plan::{Plan, converted_of, frozen_of};
 use crate::tally::{Group, Tally};
@@ -36,10 +39,20 @@ enum By {
     Train,
 }
 
+/// A plan: the window that it asks for, its segments and its message.
+struct Planned {
+    asked: AcknowledgmentWindow,
+    heads: Vec<(Segment, u64)>,
+    message: Vec<u8>,
+    plan: Plan,
+}
+
 /// A sender and a receiver, with what the one has to show and the other's record has to be.
 struct Exchange<'a> {
     group: &'a mut Group,
     by: By,
+    /// From a queued reading to the sender's deadline.
+    interval: u64,
     asked: AcknowledgmentWindow,
     heads: Vec<(Segment, u64)>,
     message: Vec<u8>,
@@ -59,7 +72,13 @@ impl<'a> Exchange<'a> {
         let heads = cutting.heads(TRANSACTION);
         let message = pattern(cutting.octets, SEED);
         let plan = frozen_of(&heads, &message, cutting.budget);
-        Self::of(group, by, Exceptions, heads, message, plan, maximum)
+        let planned = Planned {
+            asked: Exceptions,
+            heads,
+            message,
+            plan,
+        };
+        Self::of(group, by, planned, maximum, [ONE, ONE])
     }
 
     /// A train that was converted, and a receiver of messages of just its octets.
@@ -71,36 +90,53 @@ impl<'a> Exchange<'a> {
     ) -> Self {
         let message = pattern(cutting.octets, SEED);
         let plan = converted_of(&cutting.heads(TRANSACTION, read), &message, ROOM, read);
-        let heads = cutting.heads(TRANSACTION, written);
-        let asked = cutting.window;
-        Self::of(group, by, asked, heads, message, plan, cutting.octets)
+        let planned = Planned {
+            asked: cutting.window,
+            heads: cutting.heads(TRANSACTION, written),
+            message,
+            plan,
+        };
+        Self::of(group, by, planned, cutting.octets, [ONE, ONE])
     }
 
-    /// A plan, which has these segments of the message.
+    /// A plan, a receiver of messages of up to so many octets, and the profiles of sender and receiver.
     fn of(
         group: &'a mut Group,
         by: By,
-        asked: AcknowledgmentWindow,
-        heads: Vec<(Segment, u64)>,
-        message: Vec<u8>,
-        plan: Plan,
+        planned: Planned,
         maximum: usize,
+        [sender, receiver]: [Profile; 2],
     ) -> Self {
-        let sent = try_new(&plan, &message, MADE);
-        let maximum = maximum as u64;
+        let Planned {
+            asked,
+            heads,
+            message,
+            plan,
+        } = planned;
+        let sent = try_new_under(sender.number, &plan, &message, MADE);
+        let (profile, maximum) = (receiver.number, maximum as u64);
         let mut lent = Lent::new();
         let record = &mut lent.record;
-        calls::receiver_new(record, rows::OWN, TRANSACTION, VERSION, maximum, MADE);
+        calls::receiver_new(
+            record,
+            rows::OWN,
+            TRANSACTION,
+            VERSION,
+            profile,
+            maximum,
+            MADE,
+        );
         Self {
             group,
             by,
+            interval: sender.sender,
             asked,
             heads,
             message,
             sent,
             deadline: None,
             submissions: 0,
-            record: Record::new(rows::OWN, TRANSACTION, VERSION, maximum, MADE),
+            record: Record::new(rows::OWN, TRANSACTION, VERSION, profile, maximum, MADE),
             lent,
         }
     }
@@ -168,7 +204,7 @@ impl<'a> Exchange<'a> {
         let ticket = self.submissions;
         self.submissions += 1;
         let closes = self.asked == Prohibited && index + 1 == self.heads.len();
-        self.deadline = (!closes).then_some(reading + INTERVAL);
+        self.deadline = (!closes).then_some(reading + self.interval);
         let handed = self.sent.sender.submitted(OWN, ticket, reading, reading);
         let wanted = awaiting_accept(self.deadline, self.submissions);
         case(self.group, handed, wanted);
@@ -208,10 +244,11 @@ impl<'a> Exchange<'a> {
         (response, Some(self.message.len() as u64))
     }
 
-    fn compare(&mut self, given: u32, wanted: Lent) {
+    /// What a call gave and left has to be this number and this.
+    fn compare(&mut self, given: u32, number: u32, wanted: Lent) {
         let differences = self.lent.differences(&wanted);
         let none = <[Option<String>; 4]>::default();
-        self.group.case((given, differences), (0, none));
+        self.group.case((given, differences), (number, none));
         // The next call is made on what had to be left, so that a case that differs does not spoil the others.
         self.lent = wanted;
     }
@@ -229,6 +266,13 @@ impl<'a> Exchange<'a> {
         let carried = self.leave(&mut wanted, index, row);
         let reception = answer(Kind::Later, carried.0, carried.1);
         wanted.answer = at_front(&reception, wanted.answer.len());
+        let given = self.receive(index, &decoded[..layout::SEGMENT], reading);
+        self.compare(given, 0, wanted);
+        carried
+    }
+
+    /// The call, of a segment that was decoded.
+    fn receive(&mut self, index: usize, segment: &[u8], reading: u64) -> u32 {
         let data = self.data(index).to_vec();
         let Lent {
             answer,
@@ -237,8 +281,7 @@ impl<'a> Exchange<'a> {
             output,
         } = &mut self.lent;
         answer.fill(FILL);
-        let segment = &decoded[..layout::SEGMENT];
-        let given = calls::receiver_receive(
+        calls::receiver_receive(
             record,
             store,
             &mut output[..layout::STORE],
@@ -248,9 +291,7 @@ impl<'a> Exchange<'a> {
             0,
             reading,
             answer,
-        );
-        self.compare(given, wanted);
-        carried
+        )
     }
 
     /// All of these are received in one call.
@@ -264,6 +305,13 @@ impl<'a> Exchange<'a> {
         let reception = answer(Kind::Later, carried.0, carried.1);
         let train = [&received[..], &reception].concat();
         wanted.answer = at_front(&train, wanted.answer.len());
+        let given = self.receive_train(indices, reading);
+        self.compare(given, 0, wanted);
+        carried
+    }
+
+    /// The call.
+    fn receive_train(&mut self, indices: &[usize], reading: u64) -> u32 {
         let segments: Vec<Vec<u8>> = indices.iter().map(|index| self.octets(*index)).collect();
         let lengths = segments.iter().map(|octets| octets.len() as u16);
         let lengths: Vec<u8> = lengths.flat_map(u16::to_be_bytes).collect();
@@ -274,7 +322,7 @@ impl<'a> Exchange<'a> {
             output,
         } = &mut self.lent;
         answer.fill(FILL);
-        let given = calls::receiver_train(
+        calls::receiver_train(
             record,
             store,
             &mut output[..layout::STORE],
@@ -283,9 +331,7 @@ impl<'a> Exchange<'a> {
             &lengths,
             reading,
             answer,
-        );
-        self.compare(given, wanted);
-        carried
+        )
     }
 
     /// The receiver is given these segments: all but the last one are held. The response to that one, if it has any.
@@ -317,13 +363,20 @@ impl<'a> Exchange<'a> {
     /// The receiver waits until its deadline, and then asks for what this map misses.
     fn asks(&mut self, deadline: u64, map: Map) -> Reported {
         let response = reported(Outcome::Asks, self.record.state, map);
+        self.due(deadline, Outcome::Asks, Some(response));
+        response
+    }
+
+    /// The receiver waits until its deadline, and then this comes of an advance.
+    fn due(&mut self, deadline: u64, outcome: Outcome, response: Option<Reported>) {
         for (reading, outcome, response) in [
             (deadline - 1, Outcome::Waits, None),
-            (deadline, Outcome::Asks, Some(response)),
+            (deadline, outcome, response),
         ] {
             self.record.leave(&rows::advance(reading), outcome);
             let mut wanted = self.lent.clone();
             wanted.record = at_front(&self.record.octets(), wanted.record.len());
+            wanted.leave_store(&rows::advance(reading), &[], outcome);
             let reply = answer(Kind::Advance, response, None);
             wanted.answer = at_front(&reply, wanted.answer.len());
             let Lent {
@@ -334,9 +387,8 @@ impl<'a> Exchange<'a> {
             } = &mut self.lent;
             answer.fill(FILL);
             let given = calls::receiver_advance(record, store, reading, answer);
-            self.compare(given, wanted);
+            self.compare(given, 0, wanted);
         }
-        response
     }
 
     /// The receiver's response goes to the sender.
@@ -407,7 +459,7 @@ fn lost(g: &mut Group) {
                 marks: [marks, 0, 0, 0],
                 lists: false,
             };
-            let deadline = SENT + record::INTERVAL;
+            let deadline = SENT + ONE.receiver;
             let response = e.asks(deadline, map);
             e.hears(response, deadline);
             e.sends_all(lost, AGAIN);
@@ -434,25 +486,30 @@ fn too_long(g: &mut Group) {
     }
 }
 
-/// A converted train arrives in order: the message is handed over by the last segment, which is answered where the window has responses to it, and
-/// so is a repeat.
-fn arrives(g: &mut Group, by: By, cutting: dialects::Cutting, dialects: (Dialect, Dialect)) {
-    let mut e = Exchange::converted(g, by, cutting, dialects);
+/// These segments, the last ones of a train in which only the last one is answered, if any, are sent and arrive in order: the message is handed over
+/// by the last one, which is answered where the window has responses to it, and so is a repeat.
+fn arrive(e: &mut Exchange, indices: &[usize], reading: u64) {
     let count = e.heads.len();
     let answered = ![Prohibited, Exceptions].contains(&e.asked);
     let entries = if answered { count as u16 } else { 0 };
-    let all: Vec<usize> = (0..count).collect();
-    e.sends_all(&all, SENT);
+    e.sends_all(indices, reading);
     let whole = |row: Row| row.marks(entries, marks(0..count));
-    let response = e.takes(&all, SENT, |call| whole(call.hands_over()));
-    e.takes(&[0], SENT, |call| whole(call.repeats()));
+    let response = e.takes(indices, reading, |call| whole(call.hands_over()));
+    e.takes(&[0], reading, |call| whole(call.repeats()));
     if let Some(response) = response {
-        e.hears(response, SENT);
+        e.hears(response, reading);
         let received = ended(PEER_RECEIVED, e.submissions);
         case(e.group, e.sent, received);
     } else if e.asked == Exceptions {
         e.ends();
     }
+}
+
+/// A converted train arrives.
+fn arrives(g: &mut Group, by: By, cutting: dialects::Cutting, dialects: (Dialect, Dialect)) {
+    let mut e = Exchange::converted(g, by, cutting, dialects);
+    let all: Vec<usize> = (0..e.heads.len()).collect();
+    arrive(&mut e, &all, SENT);
 }
 
 /// Trains in which only the last segment is answered, if any.
@@ -478,4 +535,5 @@ pub fn corners(tally: &mut Tally) {
     tally.group(title, |g| converted(g, Singly));
     let title = "exchange: converted trains, in one call";
     tally.group(title, |g| converted(g, Train));
+    profiles::corners(tally);
 }

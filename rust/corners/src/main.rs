@@ -1,6 +1,6 @@
 //! The corners of document 01 and the boundary of each refusal, run on the exports and compared with what document 01 says (document 02 of
-//! release, the even planner, the planners under Exceptions, the converter and the delivery orders, docs/EXPORTS.md of the exports' own refusals), a
-//! line for each group. A case that comes out otherwise is printed, and the status is then 1.
+//! release, the even planner, the planners under Exceptions, the converter, the delivery orders and the profiles, docs/EXPORTS.md of the exports' own
+//! refusals), a line for each group. A case that comes out otherwise is printed, and the status is then 1.
 
 mod codec;
 mod dialects;
@@ -11,6 +11,7 @@ mod octets;
 mod orders;
 mod own;
 mod plan;
+mod profiles;
 mod receiver;
 mod sender;
 mod tally;

@@ -1,14 +1,17 @@
 //! The exports' own refusals, as docs/EXPORTS.md has them: 256, a buffer is shorter than its layout; 257, its octets spell no value; 258, a
 //! number names no case. They come in this order and before document 01's, and every lent octet stays.
 
+mod layouts;
+
 use crate::octets::{begin, difference, end, filled, window};
+use crate::profiles::ONE;
 use crate::tally::{Group, Tally};
 use catkhize::calls::{self, Origin};
 use catkhize::{AcknowledgmentWindow, layout};
 
-const TOO_SHORT: u32 = 65_536;
-const SPELLS_NONE: u32 = 65_792;
-const NAMES_NONE: u32 = 66_048;
+pub const TOO_SHORT: u32 = 65_536;
+pub const SPELLS_NONE: u32 = 65_792;
+pub const NAMES_NONE: u32 = 66_048;
 
 const TRANSACTION: u8 = 2;
 const NUMBER: u64 = 9;
@@ -45,6 +48,7 @@ struct Lent {
     protocol: u8,
     failure: u8,
     version: u8,
+    profile: u8,
     value: u64,
     reading: u64,
 }
@@ -161,7 +165,8 @@ const ENTRIES: [Entry; 20] = [
         call: |l| {
             let from = l.origin();
             let record = &mut l.buffers[RECEIVER];
-            calls::receiver_new(record, from, TRANSACTION, l.version, 100, l.reading)
+            let (version, profile) = (l.version, l.profile);
+            calls::receiver_new(record, from, TRANSACTION, version, profile, 100, l.reading)
         },
         answer: 0,
         lent: &[RECEIVER],
@@ -210,7 +215,10 @@ const ENTRIES: [Entry; 20] = [
         call: |l| {
             let from = l.origin();
             let [_, _, _, plan, _, _, record, ..] = &mut l.buffers;
-            calls::sender_new(record, from, plan, MESSAGE, l.version, NUMBER, l.reading)
+            let (version, profile) = (l.version, l.profile);
+            calls::sender_new(
+                record, from, plan, MESSAGE, version, profile, NUMBER, l.reading,
+            )
         },
         answer: 0,
         lent: &[OFFERING, PLAN],
@@ -298,15 +306,15 @@ fn misspellings(buffer: usize) -> &'static [(usize, u8)] {
         HEADS => &[(2, 3), (255 * layout::HEAD + 2, 3)],
         RESPONSE => &[(1, 14), (36, 2), (37, 1)],
         PLAN => &[(0, 0), (0, 2), (1, 2), (19, 6), (44, 2)],
-        RECEIVER | COMPLETE => &[(0, 0), (0, 2), (11, 3), (23, 6), (24, 1), (26, 6), (41, 2)],
+        RECEIVER | COMPLETE => &[(0, 0), (0, 1), (11, 3), (24, 6), (25, 1), (27, 6), (42, 2)],
         _ => &[
             (0, 0),
-            (0, 2),
+            (0, 1),
             (11, 3),
-            (22, 6),
-            (26, 2),
-            (148, 2),
-            (173, 2),
+            (23, 6),
+            (27, 2),
+            (149, 2),
+            (174, 2),
         ],
     }
 }
@@ -336,6 +344,7 @@ impl Lent {
             protocol: 0,
             failure: 0,
             version: 1,
+            profile: ONE.number,
             value: 5,
             reading: READING,
         };
@@ -345,7 +354,8 @@ impl Lent {
 
     /// Makes plan, heads and machines by calls.
     fn make(&mut self) {
-        let (from, window, version) = (self.origin(), self.window, self.version);
+        let (from, window) = (self.origin(), self.window);
+        let (version, profile) = (self.version, self.profile);
         let [
             segment,
             heads,
@@ -367,7 +377,7 @@ impl Lent {
             given
         });
         let parts: u32 = parts.sum();
-        let new = calls::receiver_new(receiver, from, TRANSACTION, version, 100, READING);
+        let new = calls::receiver_new(receiver, from, TRANSACTION, version, profile, 100, READING);
         complete.copy_from_slice(receiver);
         let last = end(TRANSACTION, 1, None, None);
         let received = [&segment[..], &last].map(|segment| {
@@ -385,7 +395,9 @@ impl Lent {
                 answer,
             )
         });
-        let made = calls::sender_new(offering, from, plan, MESSAGE, version, NUMBER, READING);
+        let made = calls::sender_new(
+            offering, from, plan, MESSAGE, version, profile, NUMBER, READING,
+        );
         taken.copy_from_slice(offering);
         let mut state = filled(layout::STATE);
         let sent = calls::sender_submitted(taken, NUMBER, 0, READING, READING, &mut state);
@@ -486,7 +498,7 @@ fn unnamed(g: &mut Group) {
 fn order(g: &mut Group) {
     for entry in &ENTRIES {
         let mut lent = Lent::of(entry);
-        (lent.version, lent.value, lent.reading) = (0, 0, 0);
+        (lent.version, lent.profile, lent.value, lent.reading) = (0, 0, 0, 0);
         if let Some(named) = entry.named {
             lent.name_none(named, 0);
             refuses(g, entry, lent.clone(), NAMES_NONE);
@@ -510,4 +522,5 @@ pub fn corners(tally: &mut Tally) {
     tally.group("exports: 257, octets that spell no value", misspelled);
     tally.group("exports: 258, numbers that name no case", unnamed);
     tally.group("exports: each test against the next", order);
+    layouts::corners(tally);
 }

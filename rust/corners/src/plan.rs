@@ -38,7 +38,7 @@ pub fn proposed(heads: Heads) -> Vec<u8> {
 
 /// PLAN of an accepted cutting: the heads past its own are empty.
 fn frozen_plan(heads: Heads, message: &[u8], budget: u64, window: AcknowledgmentWindow) -> Vec<u8> {
-    let mut plan = vec![layout::LAYOUT_VERSION, 1];
+    let mut plan = vec![layout::PLAN_VERSION, 1];
     plan.extend([0; PLANNED]);
     for number in [heads.len() as u64, message.len() as u64, budget] {
         plan.extend(number.to_be_bytes());

@@ -9,6 +9,7 @@ mod made;
 mod marked;
 mod one_call;
 mod orders;
+mod profiles;
 pub mod record;
 mod refusals;
 mod release;
@@ -35,5 +36,6 @@ pub fn corners(tally: &mut Tally) {
     even::corners(tally);
     orders::corners(tally);
     release::corners(tally);
+    profiles::corners(tally);
     one_call::corners(tally);
 }

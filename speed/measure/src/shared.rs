@@ -6,7 +6,7 @@ use bts136::l3::tsar::{
     AcknowledgmentWindow, Compression, CrcStatus, OptionalServices, Segment, SegmentKind,
 };
 use catkhize::calls::{self, Origin};
-use catkhize::layout;
+use catkhize::{PROFILE_1, layout};
 use plain::receiver::Reported;
 
 pub const SEGMENTS: usize = 256;
@@ -54,6 +54,7 @@ impl Buffers {
             ORIGIN,
             TRANSACTION,
             VERSION.code(),
+            PROFILE_1,
             MESSAGE_OCTETS as u64,
             READING,
         );

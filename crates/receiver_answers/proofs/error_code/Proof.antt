@@ -81,6 +81,12 @@ enum-told-12 c = search needs
 mul-result-12 : tie.Need-mul-result-12
 mul-result-12 c = search needs
 
+enum-told-13 : tie.Need-enum-told-13
+enum-told-13 c = search needs
+
+mul-result-13 : tie.Need-mul-result-13
+mul-result-13 c = search needs
+
 returns : tie.Need-returns
 returns c = rw (c .enum-told .given .1)
 
@@ -120,6 +126,9 @@ returns-12 c = rw (c .enum-told11 .given .1)
 returns-13 : tie.Need-returns-13
 returns-13 c = rw (c .enum-told12 .given .1)
 
+returns-14 : tie.Need-returns-14
+returns-14 c = rw (c .enum-told13 .given .1)
+
 pub error-code-spec : {M : Type 1} → statement M
 error-code-spec =
     tie.close
@@ -150,6 +159,8 @@ error-code-spec =
     mul-result-11
     enum-told-12
     mul-result-12
+    enum-told-13
+    mul-result-13
     returns
     returns-2
     returns-3
@@ -162,4 +173,5 @@ error-code-spec =
     returns-10
     returns-11
     returns-12
-    returns-13)
+    returns-13
+    returns-14)

@@ -27,12 +27,12 @@ passed-2 c = skip (passed-1 (c .before)) (le-ltb _ _ (c .if2 .left))
 returns : tie.Need-returns
 returns c =
     let x = c .before .before in
-    new-refused (now (x .args .«record»)) (x .args .peer-kind) (x .args .peer-width) (x .args .peer-value) (x .args .protocol) (x .args .protocol-octet) (x .args .transaction) (x .args .version) (x .args .maximum) (x .args .reading) short (stop short (start (rows x)) (lt-ltb _ _ (c .if1 .taken)))
+    new-refused (now (x .args .«record»)) (x .args .peer-kind) (x .args .peer-width) (x .args .peer-value) (x .args .protocol) (x .args .protocol-octet) (x .args .transaction) (x .args .version) (x .args .profile) (x .args .maximum) (x .args .reading) short (stop short (start (rows x)) (lt-ltb _ _ (c .if1 .taken)))
 
 returns-2 : tie.Need-returns-2
 returns-2 c =
     let x = c .before .before .before in
-    new-refused (now (x .args .«record»)) (x .args .peer-kind) (x .args .peer-width) (x .args .peer-value) (x .args .protocol) (x .args .protocol-octet) (x .args .transaction) (x .args .version) (x .args .maximum) (x .args .reading) unnamed (stop short (passed-1 (c .before)) (lt-ltb _ _ (c .if2 .taken)))
+    new-refused (now (x .args .«record»)) (x .args .peer-kind) (x .args .peer-width) (x .args .peer-value) (x .args .protocol) (x .args .protocol-octet) (x .args .transaction) (x .args .version) (x .args .profile) (x .args .maximum) (x .args .reading) unnamed (stop short (passed-1 (c .before)) (lt-ltb _ _ (c .if2 .taken)))
 
 protocol-of-requires : tie.Need-protocol-of-requires
 protocol-of-requires c κs = search needs
@@ -52,7 +52,7 @@ returns-3 c =
     let p = c .before .before .before .before .before .protocol-of in
     c .before .before .put-made .ensures
     ∙ ap (newGives (now (x .args .«record»))) (c .before .before .before .before .try-new .ensures)
-    ∙ new-passed (now (x .args .«record»)) (x .args .peer-kind) (x .args .peer-width) (x .args .peer-value) (x .args .protocol) (x .args .protocol-octet) (x .args .transaction) (x .args .version) (x .args .maximum) (x .args .reading) (p .result) (passed-2 (c .before .before .before .before .before .before) .rest) (p .ensures)
+    ∙ new-passed (now (x .args .«record»)) (x .args .peer-kind) (x .args .peer-width) (x .args .peer-value) (x .args .protocol) (x .args .protocol-octet) (x .args .transaction) (x .args .version) (x .args .profile) (x .args .maximum) (x .args .reading) (p .result) (passed-2 (c .before .before .before .before .before .before) .rest) (p .ensures)
 
 pub catkhize-receiver-new-spec : {M : Type 1} → statement M
 catkhize-receiver-new-spec =

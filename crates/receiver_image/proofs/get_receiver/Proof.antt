@@ -51,8 +51,8 @@ returns c =
     let h = c .before .before .before .before .before .before .before .before .before .before .get-head .ensures in
     let n = c .before .before .before .before .get-lengths .ensures in
     let s = c .before .before .get-slots .ensures in
-    let a = rest-of 90 l in
-    let b = rest-of 602 l in
+    let a = rest-of 91 l in
+    let b = rest-of 603 l in
     let p : spells (spellAll (spell 2)) lengthsOf 512 _ ≡ true = ap (spells (spellAll (spell 2)) lengthsOf 512) (sym a) ∙ n .1 in (
       c .both .ensures ∙ ap₂ (λ (x y : Bool). x && y) (h .0) (s .0 ∙ ap (allPass kindOk 13 256) b) ∙ sym (image-spells l (c .before .before .before .before .before .before .before .before .before .before .before .before .pre) p),
       rw (h .1, n .0, s .1, a, b),

@@ -63,6 +63,9 @@ enum-told-17 c = search needs
 enum-told-18 : tie.Need-enum-told-18
 enum-told-18 c = search needs
 
+enum-told-19 : tie.Need-enum-told-19
+enum-told-19 c = search needs
+
 returns : tie.Need-returns
 returns c = rw (c .enum-told .given .1)
 
@@ -120,6 +123,9 @@ returns-18 c = rw (c .enum-told17 .given .1)
 returns-19 : tie.Need-returns-19
 returns-19 c = rw (c .enum-told18 .given .1)
 
+returns-20 : tie.Need-returns-20
+returns-20 c = rw (c .enum-told19 .given .1)
+
 pub error-code-spec : {M : Type 1} → statement M
 error-code-spec =
     tie.close
@@ -144,6 +150,7 @@ error-code-spec =
     enum-told-16
     enum-told-17
     enum-told-18
+    enum-told-19
     returns
     returns-2
     returns-3
@@ -162,4 +169,5 @@ error-code-spec =
     returns-16
     returns-17
     returns-18
-    returns-19)
+    returns-19
+    returns-20)

@@ -23,7 +23,7 @@ rows c = newTests (now (c .args .«record»)) (c .args .protocol) (now (c .args 
 abbrev step : (c : tie.Start) → Step
 step c =
     let x = c .args in
-    newStep (termsOf (x .peer-kind) (x .peer-width) (x .peer-value) (x .protocol) (x .protocol-octet) (x .version) (x .number)) (now (x .plan)) (now (x .message)) (x .reading)
+    newStep (termsOf (x .peer-kind) (x .peer-width) (x .peer-value) (x .protocol) (x .protocol-octet) (x .version) (x .profile) (x .number)) (now (x .plan)) (now (x .message)) (x .reading)
 
 refused : (c : tie.Start) (x : Refusal) → refusal (rows c) ≡ some x → NewMet (rows c) (now (c .args .«record»)) (step c) (call (codeOf x) (now (c .args .«record»)) [])
 refused c x e = new-refuses (rows c) (now (c .args .«record»)) (step c) x e
@@ -72,7 +72,7 @@ returns-5 c =
     let o = c .before .before .before .before .before .before .protocol-of in
     let v = c .before .before .before .try-new in
     let p = c .before .before .put-made in
-    new-does (rows (c .before .before .before .before .before .before .before .before .before .before .before .before .before .before .before .before)) (now (x .«record»)) (step (c .before .before .before .before .before .before .before .before .before .before .before .before .before .before .before .before)) (skip (passed-3 (c .before .before .before .before .before .before .before .before)) (le-ltb _ _ (c .before .before .before .before .before .before .before .if4 .left)) .rest) (sent (v .result)) (v .ensures ∙ same-new (peerOf (x .peer-kind) (x .peer-width) (x .peer-value)) (x .version) (x .number) (x .reading) (now (x .message)) _ _ _ _ (o .ensures) (g .ensures .1)) (call (p .result) (p .last .0) []) (p .ensures .0) (p .ensures .1)
+    new-does (rows (c .before .before .before .before .before .before .before .before .before .before .before .before .before .before .before .before)) (now (x .«record»)) (step (c .before .before .before .before .before .before .before .before .before .before .before .before .before .before .before .before)) (skip (passed-3 (c .before .before .before .before .before .before .before .before)) (le-ltb _ _ (c .before .before .before .before .before .before .before .if4 .left)) .rest) (sent (v .result)) (v .ensures ∙ same-new (peerOf (x .peer-kind) (x .peer-width) (x .peer-value)) (x .version) (x .profile) (x .number) (x .reading) (now (x .message)) _ _ _ _ (o .ensures) (g .ensures .1)) (call (p .result) (p .last .0) []) (p .ensures .0) (p .ensures .1)
 
 pub catkhize-sender-new-spec : {M : Type 1} → statement M
 catkhize-sender-new-spec =

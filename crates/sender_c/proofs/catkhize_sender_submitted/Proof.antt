@@ -9,6 +9,7 @@ use mathlib.Core.Option.{some}
 use denote.Ref.{now}
 use Rattle.tsar.specs.Rows.{Refusal, refusal, Passed, start, skip, stop}
 use Rattle.sender.specs.declared.Sender.{Sender}
+use Rattle.sender.specs.Record.{intervalOf}
 use Rattle.sender.specs.Calls.{Step, submittedOf}
 use Rattle.sender.specs.Says.{sent}
 use Rattle.codec_c.specs.Codes.{codeOf, short, misspelled}
@@ -67,7 +68,7 @@ returns-4 c =
     let g = c .before .before .before .before .before .before .before .before .before .before .before .get-sender in
     let v = c .before .before .before .before .before .submitted in
     let p = c .before .before .before .before .put-sent in
-    does (rows (c .before .before .before .before .before .before .before .before .before .before .before .before .before .before .before .before .before)) (now (x .«record»)) (now (x .answer)) (step (c .before .before .before .before .before .before .before .before .before .before .before .before .before .before .before .before .before)) (skip (passed-2 (c .before .before .before .before .before .before .before .before .before .before .before .before .before)) (ap not (sym (g .ensures .0)) ∙ c .before .before .before .before .before .before .before .before .before .if3 .left) .rest) (sent (v .result)) (v .ensures ∙ ap (λ (y : Sender). submittedOf 330000 y (x .number) (x .ticket) (x .queued) (x .observed)) (g .ensures .1)) (call (p .result) (p .last .0) (p .last .1 .0)) (p .ensures .0) (p .ensures .1)
+    does (rows (c .before .before .before .before .before .before .before .before .before .before .before .before .before .before .before .before .before)) (now (x .«record»)) (now (x .answer)) (step (c .before .before .before .before .before .before .before .before .before .before .before .before .before .before .before .before .before)) (skip (passed-2 (c .before .before .before .before .before .before .before .before .before .before .before .before .before)) (ap not (sym (g .ensures .0)) ∙ c .before .before .before .before .before .before .before .before .before .if3 .left) .rest) (sent (v .result)) (v .ensures ∙ ap (λ (y : Sender). submittedOf (intervalOf y) y (x .number) (x .ticket) (x .queued) (x .observed)) (g .ensures .1)) (call (p .result) (p .last .0) (p .last .1 .0)) (p .ensures .0) (p .ensures .1)
 
 pub catkhize-sender-submitted-spec : {M : Type 1} → statement M
 catkhize-sender-submitted-spec =

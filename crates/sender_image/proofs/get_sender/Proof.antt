@@ -36,8 +36,8 @@ returns c =
     let l = now (c .before .before .before .before .before .before .before .before .before .args .l) in
     let h = c .before .before .before .before .before .before .before .get-head .ensures in
     let b = c .before .before .get-body .ensures in (
-      c .both .ensures ∙ ap₂ {C = Bool} (λ (x y : Bool). x && y) (h .0) (b .0 ∙ ap bodyOk (rest-of 173 l)) ∙ sym (image-spells l (c .before .before .before .before .before .before .before .before .before .pre)),
-      ap₂ {C = Sender} (λ (x : Head) (y : Plan). senderOf x y) (h .1) (b .1 ∙ ap bodyOf (rest-of 173 l)),
+      c .both .ensures ∙ ap₂ {C = Bool} (λ (x y : Bool). x && y) (h .0) (b .0 ∙ ap bodyOk (rest-of 174 l)) ∙ sym (image-spells l (c .before .before .before .before .before .before .before .before .before .pre)),
+      ap₂ {C = Sender} (λ (x : Head) (y : Plan). senderOf x y) (h .1) (b .1 ∙ ap bodyOf (rest-of 174 l)),
     )
 
 pub get-sender-spec : {M : Type 1} → statement M

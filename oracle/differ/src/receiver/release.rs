@@ -3,10 +3,11 @@
 //! once more, and has to do what the original's receiver with those fields does.
 
 use super::{Port, any_place};
+use crate::profiles::{self, IN_RECEIVER};
 use crate::spells;
 use crate::table::{
     Area, CLOCK_AND_CLOSED, FULL_RELEASED, IMPOSSIBLE_AND_CLOCK, LAST_RELEASED, LONG_RELEASED,
-    RELEASED, SHORT_AND_IMPOSSIBLE, Table,
+    NEITHER_RELEASE, RELEASED, SHORT_AND_IMPOSSIBLE, Table,
 };
 use crate::watch::{Case, Checked, by_document_02, same, same_given};
 use catkhize::{calls, layout};
@@ -39,12 +40,16 @@ fn number(record: &[u8], at: usize) -> u64 {
     Take(&record[at..]).take64()
 }
 
+pub fn last_reading(record: &[u8]) -> u64 {
+    number(record, LAST_READING)
+}
+
 /// What there is to refuse a release for, in document 02's order: 60, 62, 33, 38.
 fn reasons(record: &[u8], store: usize, reading: u64) -> [bool; 4] {
     [
         store < layout::STORE,
         spells::receiver_impossible(record),
-        reading < number(record, LAST_READING),
+        reading < last_reading(record),
         record[STATE] != COMPLETE,
     ]
 }
@@ -76,6 +81,7 @@ fn left(record: &[u8], reading: u64) -> Vec<u8> {
 fn seen(record: &[u8], store: usize, reading: u64, area: &mut Area) {
     let [short, impossible, early, closed] = reasons(record, store, reading);
     let done = !(short || impossible || early || closed);
+    let neither = !profiles::known(record[IN_RECEIVER]);
     if !(short || impossible || early) {
         area.state([record[STATE], record[STATE + 1], 0, 0]);
     }
@@ -83,6 +89,7 @@ fn seen(record: &[u8], store: usize, reading: u64, area: &mut Area) {
         (short && impossible, SHORT_AND_IMPOSSIBLE),
         (impossible && early, IMPOSSIBLE_AND_CLOCK),
         (early && closed, CLOCK_AND_CLOSED),
+        (neither && !short, NEITHER_RELEASE),
         (done, RELEASED),
         (done && store > layout::STORE, LONG_RELEASED),
         (done && reading == u64::MAX, LAST_RELEASED),
@@ -105,7 +112,7 @@ pub fn any(random: &mut Random, record: &[u8], behind: &Case) -> Option<Case> {
     if !full && !random.once_in(CALLS) {
         return None;
     }
-    let last = number(record, LAST_READING);
+    let last = last_reading(record);
     let reading = match random.below(9) {
         0 => last.saturating_sub(1),
         1 => random.next() % last.max(1),

@@ -301,7 +301,8 @@ fn timeouts(record: &mut Record, count: usize) {
 fn late_clocks(record: &mut Record, count: usize) {
     for _ in 0..count {
         let mut opening = any_opening(&mut record.random);
-        opening.reading = LAST_READING - record.random.pick(&[0, 1, 2, 700, 300_000, 300_001]);
+        let early = [0, 1, 2, 700, REASSEMBLY_MS, REASSEMBLY_MS + 1];
+        opening.reading = LAST_READING - record.random.pick(&early);
         let window = any_window(&mut record.random);
         let mut run = open(record, opening);
         let transaction = run.opening.transaction;

@@ -5,12 +5,13 @@ use crate::octets::Take;
 use crate::play::receiver::{
     ADVANCE, CANCEL, Data, Delivery, NO_PATCH, OPEN, Opening, RECEIVE, Receiving, STATE_OCTETS,
 };
+use crate::profiles::WAITS;
 use crate::random::Random;
 use bts136::l3::relay::HigherLayerProtocol;
 use bts136::l3::tsar::Segment;
 use bts136::link::rach::MobileIdentity;
 
-pub const REASSEMBLY_MS: u64 = 300_000;
+pub const REASSEMBLY_MS: u64 = WAITS.receiver;
 /// The last reading at which receive can still set a deadline.
 pub const LAST_READING: u64 = u64::MAX - REASSEMBLY_MS;
 

@@ -346,7 +346,8 @@ fn late_clocks(record: &mut Record, count: usize) {
     for _ in 0..count {
         let random = &mut record.random;
         let mut opening = any_opening(random);
-        opening.reading = LAST_QUEUED - random.pick(&[0, 1, 2, 700, 330_000, 330_001]);
+        let early = [0, 1, 2, 700, SEGMENT_INTERVAL_MS, SEGMENT_INTERVAL_MS + 1];
+        opening.reading = LAST_QUEUED - random.pick(&early);
         let window = any_window(random);
         let segments = random.within(2, 4);
         let wanted = wanted(random, window, segments);

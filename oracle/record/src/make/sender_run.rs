@@ -10,9 +10,10 @@ use crate::play::sender::{
     ACCEPTED, ADVANCE, CANCEL, LOWER_FAILED, OPEN, OPEN_FROZEN, Opening, RESPONSE, Reply,
     STATE_OCTETS, SUBMITTED, Sending,
 };
+use crate::profiles::WAITS;
 use crate::random::Random;
 
-pub const SEGMENT_INTERVAL_MS: u64 = 330_000;
+pub const SEGMENT_INTERVAL_MS: u64 = WAITS.sender;
 /// The last queued reading at which submitted can still set a deadline.
 pub const LAST_QUEUED: u64 = u64::MAX - SEGMENT_INTERVAL_MS;
 

@@ -58,7 +58,7 @@ impl Asked {
     /// PLAN of a message that is cut so.
     pub fn record(self, octets: usize, cut: Cut) -> Vec<u8> {
         let Cut(count, begin, later, states_length) = cut;
-        let mut plan = vec![layout::LAYOUT_VERSION, 0];
+        let mut plan = vec![layout::PLAN_VERSION, 0];
         plan.extend((octets as u64).to_be_bytes());
         plan.extend(self.budget.to_be_bytes());
         plan.extend([self.transaction, self.window as u8]);

@@ -6,6 +6,7 @@ use super::rows::{
     Call, Kind, Map, OWN, Outcome, Row, STORE, TRANSACTION, advance, cancel, later, release,
 };
 use crate::octets::{FILL, PAST, at_front, difference, filled, flagged, pattern, refusal};
+use crate::profiles::{IN_RECEIVER, ONE};
 use crate::tally::Group;
 use catkhize::{calls, layout};
 
@@ -13,7 +14,7 @@ use catkhize::{calls, layout};
 const SLOT: usize = 255;
 
 /// Where services, end and stated length stand in a record.
-const NOTED: std::ops::Range<usize> = 25..33;
+const NOTED: std::ops::Range<usize> = 26..34;
 
 /// Where the figures of a response's map stand in an answer.
 const FIGURES: std::ops::Range<usize> = layout::reply::MISSING..layout::REPLY;
@@ -100,13 +101,15 @@ impl Lent {
     }
 }
 
-/// The receiver, the record that it has to have, the seed of its data, and what the last answer had where figures stand.
+/// The receiver, the record that it has to have, the seed of its data, and what the last answer had where figures stand and the last record where the
+/// profile stands.
 struct Bench<'a> {
     group: &'a mut Group,
     seed: u8,
     record: Record,
     lent: Lent,
     figures: Vec<u8>,
+    profile: u8,
 }
 
 /// How many entries of a map are missing, and the first of them: entry by entry.
@@ -187,6 +190,7 @@ impl Bench<'_> {
         let none = <[Option<String>; 4]>::default();
         self.group.case((given, differences), (number, none));
         self.figures = self.lent.answer[FIGURES].to_vec();
+        self.profile = self.lent.record[IN_RECEIVER];
         // The next call is made on what had to be left, so that a case that differs does not spoil the others.
         self.lent = wanted;
     }
@@ -203,32 +207,46 @@ impl Bench<'_> {
     }
 
     /// A new receiver, made at reading 0.
-    fn start(&mut self, version: u8, maximum: u64) {
+    fn start(&mut self, version: u8, profile: u8, maximum: u64) {
         let record = &mut self.lent.record;
-        calls::receiver_new(record, OWN, TRANSACTION, version, maximum, 0);
-        self.record = Record::new(OWN, TRANSACTION, version, maximum, 0);
+        calls::receiver_new(record, OWN, TRANSACTION, version, profile, maximum, 0);
+        self.profile = record[IN_RECEIVER];
+        self.record = Record::new(OWN, TRANSACTION, version, profile, maximum, 0);
+    }
+
+    /// The same, with every lent octet A5.
+    fn start_anew(&mut self, version: u8, profile: u8, maximum: u64) {
+        self.lent = Lent::new();
+        self.seed = 0;
+        self.start(version, profile, maximum);
+    }
+
+    /// The record is set by hand.
+    fn make(&mut self, edit: impl FnOnce(&mut Record)) {
+        edit(&mut self.record);
+        self.lent.record = at_front(&self.record.octets(), self.lent.record.len());
     }
 
     fn step(&mut self, row: Row) {
         match row {
-            Row::Start(version, maximum) => {
-                self.lent = Lent::new();
-                self.seed = 0;
-                self.start(version, maximum);
-            }
+            Row::Start(version, maximum) => self.start_anew(version, ONE.number, maximum),
+            Row::Under(profile) => self.start_anew(1, profile, 100),
             Row::Again(seed) => {
                 self.seed = seed;
-                self.start(1, 100);
+                self.start(1, ONE.number, 100);
             }
-            Row::Make(edit) => {
-                edit(&mut self.record);
-                self.lent.record = at_front(&self.record.octets(), self.lent.record.len());
-            }
+            Row::Make(edit) => self.make(edit),
+            Row::Profile(profile) => self.make(|record| record.profile = profile),
             Row::Refill => self.lent.store.fill(FILL),
             Row::RefillOutput => self.lent.output.fill(FILL),
             Row::Left(edit) => {
-                let (version, maximum) = (self.record.version, self.record.maximum);
-                let mut left = Record::new(OWN, TRANSACTION, version, maximum, 0);
+                let Record {
+                    version,
+                    profile,
+                    maximum,
+                    ..
+                } = self.record;
+                let mut left = Record::new(OWN, TRANSACTION, version, profile, maximum, 0);
                 edit(&mut left);
                 let wanted = at_front(&left.octets(), self.lent.record.len());
                 self.group
@@ -239,6 +257,7 @@ impl Bench<'_> {
                 let given = self.lent.record[NOTED].to_vec();
                 self.group.case(given, wanted);
             }
+            Row::KeepsProfile(wanted) => self.group.case(self.profile, wanted),
             Row::Figures(wanted) => self.group.case(&self.figures[..], &wanted[..]),
             Row::Wrong => {
                 self.step(later(1, 1, 5_000).refused(62));
@@ -257,9 +276,10 @@ pub fn run(group: &mut Group, tables: &[&[Row]]) {
         let mut bench = Bench {
             group,
             seed: 0,
-            record: Record::new(OWN, TRANSACTION, 1, 0, 0),
+            record: Record::new(OWN, TRANSACTION, 1, ONE.number, 0, 0),
             lent: Lent::new(),
             figures: Vec::new(),
+            profile: FILL,
         };
         for row in *table {
             bench.step(*row);

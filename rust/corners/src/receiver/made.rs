@@ -3,23 +3,24 @@
 
 use super::record::Record;
 use crate::octets::{PAST, at_front, difference, filled, refusal};
-use crate::tally::Tally;
+use crate::profiles::ONE;
+use crate::tally::{Group, Tally};
 use catkhize::calls::{self, Origin};
 use catkhize::layout;
 
 /// Width and value of the peer, case and octet of the protocol, transaction, version, what try_new gives.
-type Case = (u8, u64, u8, u8, u8, u8, u32);
+pub type Case = (u8, u64, u8, u8, u8, u8, u32);
 
 /// Segmented, CarrierSpecific, another.
-const SEG: u8 = 0;
-const CAR: u8 = 1;
-const OTH: u8 = 2;
+pub const SEG: u8 = 0;
+pub const CAR: u8 = 1;
+pub const OTH: u8 = 2;
 
-const MADE: u32 = 0;
-const VERSION: u32 = refusal(1, 0);
-const TRANSACTION: u32 = refusal(6, 1);
-const IDENTITY: u32 = refusal(30, 0);
-const SERVICE: u32 = refusal(31, 0);
+pub const MADE: u32 = 0;
+pub const VERSION: u32 = refusal(1, 0);
+pub const TRANSACTION: u32 = refusal(6, 1);
+pub const IDENTITY: u32 = refusal(30, 0);
+pub const SERVICE: u32 = refusal(31, 0);
 
 /// 30: value 0, at or past 2 to the width, or width above 63.
 const PEERS: &[Case] = &[
@@ -55,24 +56,37 @@ const ORDER: &[Case] = &[
     (34, 1, SEG, 0, 255, 255, TRANSACTION),
 ];
 
+/// Makes a receiver under a profile.
+pub fn make(g: &mut Group, profile: u8, case: Case) {
+    let (width, value, protocol, octet, transaction, version, number) = case;
+    let from = Origin {
+        kind: 1,
+        width,
+        value,
+        protocol,
+        octet,
+    };
+    let (maximum, reading) = (100, 1_000);
+    let mut record = filled(layout::RECEIVER + PAST);
+    let given = calls::receiver_new(
+        &mut record,
+        from,
+        transaction,
+        version,
+        profile,
+        maximum,
+        reading,
+    );
+    let new = Record::new(from, transaction, version, profile, maximum, reading).octets();
+    let left = if number == MADE { &new[..] } else { &[] };
+    let wanted = at_front(left, record.len());
+    g.case((given, difference(&record, &wanted)), (number, None));
+}
+
 pub fn corners(tally: &mut Tally) {
     tally.group("receiver: try_new's refusals", |g| {
-        for (width, value, protocol, octet, transaction, version, number) in
-            [PEERS, PROTOCOLS, ORDER].concat()
-        {
-            let from = Origin {
-                kind: 1,
-                width,
-                value,
-                protocol,
-                octet,
-            };
-            let mut record = filled(layout::RECEIVER + PAST);
-            let given = calls::receiver_new(&mut record, from, transaction, version, 100, 1_000);
-            let new = Record::new(from, transaction, version, 100, 1_000).octets();
-            let left = if number == MADE { &new[..] } else { &[] };
-            let wanted = at_front(left, record.len());
-            g.case((given, difference(&record, &wanted)), (number, None));
+        for case in [PEERS, PROTOCOLS, ORDER].concat() {
+            make(g, ONE.number, case);
         }
     });
 }

@@ -1,10 +1,13 @@
 //! Trains in one call. A train stops behind a segment whose reception carries a response or a message, or closes the receiver, with 0 and how
 //! many segments were received; at a refusal it stops with that. Each call is made on what the call before it left.
 
+mod profiles;
+
 use super::bench::{Lent, answer, reported};
 use super::record::Record;
 use super::rows::*;
 use crate::octets::{FILL, at_front, hex, refusal};
+use crate::profiles::ONE;
 use crate::tally::{Group, Tally};
 use catkhize::calls::Origin;
 use catkhize::{Refusal, calls, layout};
@@ -86,7 +89,7 @@ impl<'a> Train<'a> {
     }
 }
 
-/// A receiver of messages of up to 10 octets, with every lent octet A5.
+/// A receiver of messages of up to 10 octets, with every lent octet A5. Most are made under profile 1.
 struct Bench<'a> {
     group: &'a mut Group,
     record: Record,
@@ -95,10 +98,16 @@ struct Bench<'a> {
 
 impl<'a> Bench<'a> {
     fn new(group: &'a mut Group, transaction: u8) -> Self {
+        Self::under(group, ONE.number, transaction)
+    }
+
+    /// The same under a profile.
+    fn under(group: &'a mut Group, profile: u8, transaction: u8) -> Self {
         let mut lent = Lent::new();
         let maximum = MAXIMUM as u64;
-        calls::receiver_new(&mut lent.record, OWN, transaction, 1, maximum, 0);
-        let record = Record::new(OWN, transaction, 1, maximum, 0);
+        let record = &mut lent.record;
+        calls::receiver_new(record, OWN, transaction, 1, profile, maximum, 0);
+        let record = Record::new(OWN, transaction, 1, profile, maximum, 0);
         Self {
             group,
             record,
@@ -433,11 +442,11 @@ fn buffers(g: &mut Group) {
     b.gives(wrong, refusal(3, 0), 0, &[], "");
     b.gives(train(&[]).store(0).output(0), 0, 0, &[], "");
     b.gives(t.protocol(2), refusal(31, 0), 0, &[], "");
-    b.lent.record[0] = 2;
+    b.lent.record[0] = 1;
     b.refuses(t, none);
     b.refuses(t.protocol(3), none);
     b.refuses(t.answer(layout::TRAIN - 1), short);
-    b.lent.record[0] = layout::LAYOUT_VERSION;
+    b.lent.record[0] = layout::RECEIVER_VERSION;
     // An impossible record: octets are stored, and no slot is held.
     b.record.stored = 1;
     b.lent.record = at_front(&b.record.octets(), b.lent.record.len());
@@ -457,4 +466,5 @@ pub fn corners(tally: &mut Tally) {
     tally.group("train: to a released receiver", released);
     tally.group("train: lengths", lengths);
     tally.group("train: buffers", buffers);
+    profiles::corners(tally);
 }

@@ -3,11 +3,9 @@
 use self::State::{AwaitingBegin, Canceled, Complete, Expired, Failed, Receiving};
 use super::rows::{Call, Kind, Outcome};
 use crate::octets::{flagged, services_octets};
+use crate::profiles::numbered;
 use catkhize::calls::Origin;
 use catkhize::{OptionalServices, layout};
-
-/// How long after a segment its deadline is.
-pub const INTERVAL: u64 = 300_000;
 
 /// The statuses of failures that have to do with lengths.
 const MESSAGE_LENGTH_ERROR: u8 = 8;
@@ -33,6 +31,7 @@ pub struct Record {
     pub from: Origin,
     pub transaction: u8,
     pub version: u8,
+    pub profile: u8,
     pub maximum: u64,
     pub state: State,
     pub services: OptionalServices,
@@ -56,11 +55,19 @@ pub fn noted(services: OptionalServices, end: Option<u8>, length: Option<u16>) -
 
 impl Record {
     /// A new receiver: nothing is held, and no deadline runs.
-    pub fn new(from: Origin, transaction: u8, version: u8, maximum: u64, reading: u64) -> Self {
+    pub fn new(
+        from: Origin,
+        transaction: u8,
+        version: u8,
+        profile: u8,
+        maximum: u64,
+        reading: u64,
+    ) -> Self {
         Self {
             from,
             transaction,
             version,
+            profile,
             maximum,
             state: AwaitingBegin,
             services: OptionalServices::default(),
@@ -91,9 +98,10 @@ impl Record {
             Canceled => [5, 0],
         };
         let from = self.from;
-        let mut octets = vec![layout::LAYOUT_VERSION, from.kind, from.width];
+        let mut octets = vec![layout::RECEIVER_VERSION, from.kind, from.width];
         octets.extend(from.value.to_be_bytes());
-        octets.extend([from.protocol, from.octet, self.transaction, self.version]);
+        octets.extend([from.protocol, from.octet]);
+        octets.extend([self.transaction, self.version, self.profile]);
         octets.extend(self.maximum.to_be_bytes());
         octets.extend(state);
         octets.extend(noted(self.services, self.end, self.length));
@@ -111,19 +119,21 @@ impl Record {
         if !matches!(outcome, Outcome::Refused(..)) {
             self.last_reading = call.reading;
         }
-        let next_deadline = call.reading.checked_add(INTERVAL);
         match outcome {
             Outcome::Holds => {
                 self.hold(call);
                 self.state = Receiving;
-                self.deadline = next_deadline;
+                self.deadline = self.next_deadline(call);
             }
             Outcome::HandsOver => {
                 self.hold(call);
                 self.state = Complete;
                 self.deadline = None;
             }
-            Outcome::Repeats => self.deadline = next_deadline.filter(|_| self.state == Receiving),
+            Outcome::Repeats => {
+                let deadline = self.next_deadline(call);
+                self.deadline = deadline.filter(|_| self.state == Receiving);
+            }
             Outcome::Fails(status) => {
                 self.note_failing(call, status);
                 self.close(Failed(status));
@@ -133,6 +143,12 @@ impl Record {
             Outcome::Asks => self.deadline = None,
             Outcome::Closes | Outcome::Waits | Outcome::Refused(..) => {}
         }
+    }
+
+    /// The deadline that a segment sets: the profile's interval behind it.
+    fn next_deadline(&self, call: &Call) -> Option<u64> {
+        let profile = numbered(self.profile).expect("a profile that is served");
+        call.reading.checked_add(profile.receiver)
     }
 
     /// The segment is held, and what it brings of services, end and stated length is noted.

@@ -2,6 +2,7 @@
 
 use super::record::Record;
 use crate::octets::{self, Segment, placed, services, window};
+use crate::profiles::{ONE, Profile};
 use catkhize::AcknowledgmentWindow::{Every4, Every8, Every16, Exceptions, Last, Prohibited};
 use catkhize::calls::Origin;
 use catkhize::{Compression, CrcStatus, MessageCrc, OptionalServices, layout};
@@ -23,8 +24,8 @@ pub const OTHER_OCTET: Origin = Origin { octet: 4, ..OWN };
 /// The store is longer than all slots by some octets, which have to stay.
 pub const STORE: usize = layout::STORE + octets::PAST;
 
-/// The last reading from which a deadline can be set.
-pub const LATEST: u64 = u64::MAX - 300_000;
+/// The last reading from which a deadline can be set under profile 1.
+pub const LATEST: u64 = ONE.latest_received();
 
 /// A Begin's services: absent, a window alone, and with compression or a CRC, which are not served.
 pub type Services = Option<OptionalServices>;
@@ -48,18 +49,27 @@ pub const CRC16: MessageCrc = MessageCrc::Crc16(0x1234);
 pub const CRC24: MessageCrc = MessageCrc::Crc24(0x12_3456);
 pub const TOO_LARGE: MessageCrc = MessageCrc::Crc24(0x100_0000);
 
-/// A receiver of version 1 and at most 100 octets.
+/// A receiver of version 1, profile 1 and at most 100 octets.
 pub const FRESH: Row = Row::Start(1, 100);
+
+/// The same under a profile.
+pub const fn under(profile: Profile) -> Row {
+    Row::Under(profile.number)
+}
 
 #[derive(Clone, Copy)]
 pub enum Row {
-    /// A new receiver of a version and a maximum, with every lent octet A5.
+    /// A new receiver of a version and a maximum under profile 1, with every lent octet A5.
     Start(u8, u64),
-    /// A receiver of version 1 and at most 100 octets, with the lent octets as they are; the data of sequence s are the pattern of this
-    /// seed + s.
+    /// A receiver of version 1, profile 1 and at most 100 octets, with the lent octets as they are; the data of sequence s are the pattern of
+    /// this seed + s.
     Again(u8),
+    /// A new receiver of version 1 and at most 100 octets under this profile, with every lent octet A5.
+    Under(u8),
     /// The record is set by hand.
     Make(fn(&mut Record)),
+    /// The record's profile is set by hand.
+    Profile(u8),
     /// Every octet of the store is A5 again.
     Refill,
     /// Every octet of the output is A5 again.
@@ -68,6 +78,8 @@ pub enum Row {
     Left(fn(&mut Record)),
     /// This end, these services and this stated length have to stand in the record.
     Keeps(Option<u8>, Services, Option<u16>),
+    /// This octet has to stand where the record has its profile, as the last call left it.
+    KeepsProfile(u8),
     /// These octets have to stand where the last answer has the figures of a response's map.
     Figures([u8; 4]),
     /// Each of receive, advance, cancel and release has to give 62.

@@ -1,4 +1,4 @@
-//! The deadline D, 300,000 ms after the last segment, the readings that calls take, and the last ones that numbers of 64 bits allow.
+//! The deadline D, 300,000 ms after the last segment under profile 1, the readings that calls take, and the last ones that numbers of 64 bits allow.
 
 use super::bench::run;
 use super::rows::*;

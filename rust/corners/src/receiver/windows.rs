@@ -28,11 +28,11 @@ fn segment(window: Services, s: u16) -> Call {
     }
 }
 
-/// A train in order, and each of its segments again after Complete. The period counts sequence numbers.
-fn trains(g: &mut Group) {
+/// A train in order to a new receiver, and each of its segments again after Complete. The period counts sequence numbers.
+pub fn trains(g: &mut Group, fresh: Row) {
     for (window, period, answered) in WINDOWS {
         let whole = if answered { SEGMENTS } else { 0 };
-        let mut rows = vec![FRESH];
+        let mut rows = vec![fresh];
         for s in 0..SEGMENTS - 1 {
             let due = period > 0 && (s + 1) % period == 0;
             let entries = if due { s + 1 } else { 0 };
@@ -172,7 +172,7 @@ const SUPPORT: &[Row] = &[
 ];
 
 pub fn corners(tally: &mut Tally) {
-    tally.group("receiver: trains under each window", trains);
+    tally.group("receiver: trains under each window", |g| trains(g, FRESH));
     tally.group("receiver: an End that leaves a gap under each window", gaps);
     tally.group(
         "receiver: failures and timeouts under each window",

@@ -2,7 +2,7 @@
 //! queued, observed and accepted at Qk.
 
 pub use super::outcome::*;
-pub use super::record::{Sender, Sent, marks, try_new};
+pub use super::record::{Sender, Sent, marks, try_new, try_new_under};
 pub use super::response::Response;
 pub use crate::tally::{Group, Tally};
 pub use catkhize::AcknowledgmentWindow::{self, *};
@@ -11,6 +11,7 @@ pub use catkhize::Status::{self, *};
 use super::plan::{frozen_plan, plan_at, plan_under};
 use crate::octets::head;
 use crate::plan::Heads;
+use crate::profiles::ONE;
 use catkhize::calls::Origin;
 
 /// 14 octets at a budget of 9 make three segments: data lengths 4, 6, 4 under Prohibited, else 2, 6, 6.
@@ -35,8 +36,8 @@ pub const FOREIGN: u64 = 137;
 /// The lower layer's failure TimedOut: its number, and no cause.
 pub const TIMED_OUT: (u8, u8) = (1, 0);
 
-/// From a queued reading to its deadline.
-pub const INTERVAL: u64 = 330_000;
+/// From a queued reading to its deadline, under profile 1.
+pub const INTERVAL: u64 = ONE.sender;
 
 pub const MAX: u64 = u64::MAX;
 
@@ -122,11 +123,22 @@ pub fn all_accepted(window: AcknowledgmentWindow) -> Sender {
 /// A sender that was made of these segments: every one is offered as it was written out, submitted and accepted. Then, where there are responses,
 /// none comes until the deadline, or one says that the peer has them all.
 pub fn drive(g: &mut Group, made: Sent, heads: Heads, window: AcknowledgmentWindow) {
+    drive_until(g, made, heads, window, D1);
+}
+
+/// The same with another deadline of what is queued at Q1.
+pub fn drive_until(
+    g: &mut Group,
+    made: Sent,
+    heads: Heads,
+    window: AcknowledgmentWindow,
+    due_at: u64,
+) {
     let mut sent = made;
     let mut offset = 0_u64;
     for (index, (segment, data)) in heads.iter().enumerate() {
         let ticket = index as u64;
-        let deadline = (index > 0).then_some(D1);
+        let deadline = (index > 0).then_some(due_at);
         case(g, sent, prepared(ticket, index as u8, deadline, ticket));
         let part = [&head(*segment, *data)[..], &offset.to_be_bytes()].concat();
         g.case(sent.sender.offered().to_vec(), part);
@@ -138,12 +150,12 @@ pub fn drive(g: &mut Group, made: Sent, heads: Heads, window: AcknowledgmentWind
     if window == Prohibited {
         return case(g, sent, ended(LOWER_LAYER_ACCEPTED, submissions));
     }
-    case(g, sent, awaiting_response(Some(D1), submissions));
+    case(g, sent, awaiting_response(Some(due_at), submissions));
     let due = match window {
         Exceptions => ended(EXCEPTION_INTERVAL_ELAPSED, submissions),
         _ => prepared(submissions, 0, None, submissions),
     };
-    case(g, sent.sender.advance(D1), due);
+    case(g, sent.sender.advance(due_at), due);
     let received = Response::new(Received, marks(0..count), count as u16);
     let heard = sent.sender.hears(received, Q1);
     case(g, heard, ended(PEER_RECEIVED, submissions));

@@ -9,6 +9,7 @@ use crate::even;
 use crate::exceptions::{ALL, EVEN, THREE};
 use crate::octets::{begin, difference, pattern, window};
 use crate::plan::wrong_part;
+use crate::profiles::ONE;
 use catkhize::calls::Origin;
 
 const SEED: u8 = 47;
@@ -68,7 +69,8 @@ fn planned_plans(g: &mut Group) {
         ..ORIGIN
     };
     for (from, n) in [(nobody, 30), (unserved, 31), (ORIGIN, 40)] {
-        case(g, try_new_with(from, &plan, &MESSAGE, 0, 0), refuses(n));
+        let sent = try_new_with(from, &plan, &MESSAGE, 0, ONE.number, 0);
+        case(g, sent, refuses(n));
     }
 }
 
@@ -82,8 +84,9 @@ fn to_the_end(g: &mut Group) {
     }
 }
 
-/// Every call, of a sender that offers the first of three segments.
-fn calls(first: Sender) -> [(Sent, Outcome); 33] {
+/// Every call, of a sender that offers the first of three segments and waits for an interval.
+pub fn calls(first: Sender, interval: u64) -> [(Sent, Outcome); 33] {
+    let [d1, d2, d3] = [Q1, Q2, Q3].map(|queued| queued + interval);
     let awaited = first.handed(0, Q1);
     let second = first.taken(0, Q1);
     let third = second.taken(1, Q2);
@@ -98,63 +101,63 @@ fn calls(first: Sender) -> [(Sent, Outcome); 33] {
         (first.cancel(MADE), ended(CANCELLED, 0)),
         (
             first.submitted(OWN, 0, Q1, Q1),
-            awaiting_accept(Some(D1), 1),
+            awaiting_accept(Some(d1), 1),
         ),
         (first.submitted(OWN, 1, Q1, Q1), refuses(42)),
         (first.submitted(OWN, 0, MADE - 1, Q1), refuses(44)),
         (first.accepted(OWN, 0, Q1), refuses(42)),
         (first.arrives(Continuing, 0b1, 1, Q1), refuses(43)),
-        (awaited.advance(D1), again),
+        (awaited.advance(d1), again),
         (awaited.cancel(Q1), ended(CANCELLED, 1)),
-        (awaited.accepted(OWN, 0, Q1), prepared(1, 1, Some(D1), 1)),
-        (awaited.accepted(OWN, 0, D1), again.refused(42)),
+        (awaited.accepted(OWN, 0, Q1), prepared(1, 1, Some(d1), 1)),
+        (awaited.accepted(OWN, 0, d1), again.refused(42)),
         (awaited.lower_failed(OWN, 0, TIMED_OUT, Q1), lost),
         (
-            awaited.lower_failed(OWN, 0, TIMED_OUT, D1),
+            awaited.lower_failed(OWN, 0, TIMED_OUT, d1),
             again.refused(42),
         ),
         (
             awaited.arrives(Aborted, 0b1, 1, Q1),
             ended(peer_failed(Aborted), 1),
         ),
-        (awaited.with_last_ticket(MAX).advance(D1), refuses(63)),
-        (second.advance(D1), prepared(1, 1, None, 1)),
-        (second.submitted(OWN, 1, Q2, D2), prepared(2, 1, None, 2)),
+        (awaited.with_last_ticket(MAX).advance(d1), refuses(63)),
+        (second.advance(d1), prepared(1, 1, None, 1)),
+        (second.submitted(OWN, 1, Q2, d2), prepared(2, 1, None, 2)),
         (
             second.arrives(InterSegmentTimeout, 0b0, 1, Q1),
-            prepared(2, 0, Some(D1), 1),
+            prepared(2, 0, Some(d1), 1),
         ),
         (
-            last.accepted(OWN, 2, D3 - 1),
-            awaiting_response(Some(D3), 3),
+            last.accepted(OWN, 2, d3 - 1),
+            awaiting_response(Some(d3), 3),
         ),
-        (last.arrives(Received, 0b111, 3, D3 + 1), done),
-        (all.advance(D3 - 1), awaiting_response(Some(D3), 3)),
-        (all.advance(D3), elapsed),
-        (all.cancel(D3 - 1), ended(CANCELLED, 3)),
-        (all.cancel(D3), elapsed),
-        (all.arrives(Received, 0b111, 3, D3), done),
-        (all.arrives(Received, 0b111, 3, D3 + 1), elapsed.refused(38)),
-        (all.arrives(Continuing, 0b111, 3, D3), elapsed),
+        (last.arrives(Received, 0b111, 3, d3 + 1), done),
+        (all.advance(d3 - 1), awaiting_response(Some(d3), 3)),
+        (all.advance(d3), elapsed),
+        (all.cancel(d3 - 1), ended(CANCELLED, 3)),
+        (all.cancel(d3), elapsed),
+        (all.arrives(Received, 0b111, 3, d3), done),
+        (all.arrives(Received, 0b111, 3, d3 + 1), elapsed.refused(38)),
+        (all.arrives(Continuing, 0b111, 3, d3), elapsed),
         (
             all.arrives(InterSegmentTimeout, 0b101, 3, R4),
-            prepared(3, 1, Some(D3), 3),
+            prepared(3, 1, Some(d3), 3),
         ),
         (
             all.arrives(CrcError, 0b111, 3, R4),
-            prepared(3, 0, Some(D3), 3),
+            prepared(3, 0, Some(d3), 3),
         ),
         (all.arrives(Received, 0b011, 3, R4), refuses(49)),
         (all.submitted(OWN, 2, Q3, Q3), refuses(42)),
         (all.advance(Q3 - 1), refuses(33)),
-        (all.with_received(marks([3])).advance(D3), refuses(62)),
+        (all.with_received(marks([3])).advance(d3), refuses(62)),
     ]
 }
 
 /// The same of a record with a planned plan. It is left as that of a frozen one, but for the plan, which stays.
 fn goes_on(g: &mut Group) {
-    let frozen = calls(first_offered(Exceptions));
-    let planned = calls(first_offered(Every4).with_window(Exceptions));
+    let frozen = calls(first_offered(Exceptions), INTERVAL);
+    let planned = calls(first_offered(Every4).with_window(Exceptions), INTERVAL);
     for ((sent, want), (of_frozen, _)) in planned.into_iter().zip(frozen) {
         case(g, sent, want);
         let (machine, plan) = sent.sender.halves();
@@ -184,7 +187,7 @@ pub fn corners(tally: &mut Tally) {
     let title = "sender: frozen plans under Exceptions, to their end";
     tally.group(title, to_the_end);
     tally.group("sender: each call under Exceptions", |g| {
-        cases(g, calls(first_offered(Exceptions)))
+        cases(g, calls(first_offered(Exceptions), INTERVAL))
     });
     let title = "sender: each call on a record with a planned plan under Exceptions";
     tally.group(title, goes_on);

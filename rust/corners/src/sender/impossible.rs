@@ -3,7 +3,7 @@
 use super::bench::*;
 
 /// Every call, at a reading that the clock allows and at one that it doesn't: 62 comes before 33.
-fn each_call<const N: usize>(g: &mut Group, records: [Sender; N]) {
+pub fn each_call<const N: usize>(g: &mut Group, records: [Sender; N]) {
     for s in records {
         for reading in [D1, 0] {
             let calls = [

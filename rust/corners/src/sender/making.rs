@@ -3,6 +3,7 @@
 use super::bench::*;
 use super::plan::{Plan, plan_at, planned};
 use super::record::try_new_with;
+use crate::profiles::ONE;
 use catkhize::calls::Origin;
 
 /// The plan of the 14 octets: budget 9, transaction 1, Every4, 2 octets in the Begin, 6 later, 3 segments, the length stated.
@@ -11,7 +12,7 @@ pub fn plan() -> Plan {
 }
 
 /// A plan of one segment more than the message has (40).
-fn other_plan() -> Plan {
+pub fn other_plan() -> Plan {
     plan().with64(planned::COUNT, 4)
 }
 
@@ -21,7 +22,7 @@ pub fn made() -> Outcome {
 }
 
 fn new_from(from: Origin) -> Sent {
-    try_new_with(from, &plan(), &MESSAGE, VERSION, 0)
+    try_new_with(from, &plan(), &MESSAGE, VERSION, ONE.number, 0)
 }
 
 /// 30: value 0, value at or past 2 to the width, width above 63.
@@ -97,7 +98,8 @@ fn order(g: &mut Group) {
             protocol: 1,
             octet,
         };
-        case(g, try_new_with(from, &plan, &MESSAGE, version, 0), want);
+        let sent = try_new_with(from, &plan, &MESSAGE, version, ONE.number, 0);
+        case(g, sent, want);
     }
 }
 

@@ -15,6 +15,7 @@ mod order;
 mod outcome;
 pub mod plan;
 mod plans;
+mod profiles;
 mod record;
 mod response;
 mod statuses;
@@ -39,4 +40,5 @@ pub fn corners(tally: &mut Tally) {
     closing::corners(tally);
     tickets::corners(tally);
     impossible::corners(tally);
+    profiles::corners(tally);
 }

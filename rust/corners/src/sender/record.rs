@@ -5,6 +5,7 @@ use super::outcome::{Offer, Shown, deadline_fields};
 use super::plan::Plan;
 use super::response::Response;
 use crate::octets::FILL;
+use crate::profiles::{IN_SENDER, ONE};
 use catkhize::AcknowledgmentWindow;
 use catkhize::calls::{self, Origin};
 use catkhize::layout::{self, sender::*};
@@ -17,13 +18,13 @@ pub type Words = [u64; 4];
 
 // Offsets in SENDER, but for those that catkhize names. The plan stands there without its first octet.
 const TERMS_VERSION: usize = 13;
-const SUBMISSION: usize = 26;
-const SUBMISSION_INDEX: usize = 35;
-const LAST_TICKET: usize = 44;
-const SUBMITTED: usize = 52;
-const RETRY: usize = 84;
-const RECEIVED: usize = 116;
-const PLAN: usize = 173;
+const SUBMISSION: usize = 27;
+const SUBMISSION_INDEX: usize = 36;
+const LAST_TICKET: usize = 45;
+const SUBMITTED: usize = 53;
+const RETRY: usize = 85;
+const RECEIVED: usize = 117;
+const PLAN: usize = 174;
 
 // Offsets in SUBMISSION; from the part on it is a PART.
 const TICKET: usize = 8;
@@ -87,12 +88,22 @@ pub fn try_new_with(
     plan: &Plan,
     message: &[u8],
     version: u8,
+    profile: u8,
     monotonic_ms: u64,
 ) -> Sent {
     let before = Sender::UNWRITTEN;
     let mut sender = before;
     let record = &mut sender.0;
-    let given = calls::sender_new(record, from, &plan.0, message, version, OWN, monotonic_ms);
+    let given = calls::sender_new(
+        record,
+        from,
+        &plan.0,
+        message,
+        version,
+        profile,
+        OWN,
+        monotonic_ms,
+    );
     let answer = sender.state();
     Sent {
         given,
@@ -102,9 +113,14 @@ pub fn try_new_with(
     }
 }
 
-/// Makes a sender with the peer, the service and the version that most cases have.
+/// Makes a sender under a profile, with the peer, the service and the version that most cases have.
+pub fn try_new_under(profile: u8, plan: &Plan, message: &[u8], monotonic_ms: u64) -> Sent {
+    try_new_with(ORIGIN, plan, message, VERSION, profile, monotonic_ms)
+}
+
+/// The same under profile 1, which most cases have.
 pub fn try_new(plan: &Plan, message: &[u8], monotonic_ms: u64) -> Sent {
-    try_new_with(ORIGIN, plan, message, VERSION, monotonic_ms)
+    try_new_under(ONE.number, plan, message, monotonic_ms)
 }
 
 /// The calls. A sender stays as it was, so that many cases begin with it.
@@ -206,7 +222,7 @@ impl Sender {
 
     /// Segment `index` of the record's plan.
     fn part(&self, index: u8) -> [u8; layout::PART] {
-        let plan = [&[layout::LAYOUT_VERSION], &self.0[PLAN..]].concat();
+        let plan = [&[layout::PLAN_VERSION], &self.0[PLAN..]].concat();
         let mut answer = [FILL; layout::PART];
         calls::plan_segment(&plan, index, &mut answer);
         answer
@@ -278,6 +294,10 @@ impl Sender {
 
     pub fn with_version(self, version: u8) -> Self {
         self.with(TERMS_VERSION, &[version])
+    }
+
+    pub fn with_profile(self, profile: u8) -> Self {
+        self.with(IN_SENDER, &[profile])
     }
 
     /// Where a plan's octet stands in the record.

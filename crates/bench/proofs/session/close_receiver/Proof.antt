@@ -28,7 +28,7 @@ made : (k : tie.After-octet2) → getD (memory k) 0 0 ≡ 0 → ⊥
 made k e = k .before .before .before .before .if1 .left (k .before .before .before .before .before .octet .ensures ∙ e)
 
 -- what the test of the state told
-told : (k : tie.After-octet2) (b : Bool) → b ≡ not (taking (stateFrom (k .octet2 .result) 0)) → b ≡ not (taking (stateFrom (getD (memory k) 23 0) 0))
+told : (k : tie.After-octet2) (b : Bool) → b ≡ not (taking (stateFrom (k .octet2 .result) 0)) → b ≡ not (taking (stateFrom (getD (memory k) 24 0) 0))
 told k b e = e ∙ ap (λ (n : ℕ). not (taking (stateFrom n 0))) (k .octet2 .ensures)
 
 octet-requires : tie.Need-octet-requires

@@ -111,6 +111,15 @@ slice-aggregate-same-12 c = search needs
 same-requires-12 : tie.Need-same-requires-12
 same-requires-12 c κs = search needs
 
+enum-told-13 : tie.Need-enum-told-13
+enum-told-13 c = search needs
+
+slice-aggregate-same-13 : tie.Need-slice-aggregate-same-13
+slice-aggregate-same-13 c = search needs
+
+same-requires-13 : tie.Need-same-requires-13
+same-requires-13 c κs = search needs
+
 returns : tie.Need-returns
 returns c = simp (c .before .before .enum-told .given .1) (c .same .ensures)
 
@@ -146,6 +155,9 @@ returns-11 c = simp (c .before .before .enum-told11 .given .1) (c .same11 .ensur
 
 returns-12 : tie.Need-returns-12
 returns-12 c = simp (c .before .before .enum-told12 .given .1) (c .same12 .ensures)
+
+returns-13 : tie.Need-returns-13
+returns-13 c = simp (c .before .before .enum-told13 .given .1) (c .same13 .ensures)
 
 pub is-keyword-spec : {M : Type 1} → statement M
 is-keyword-spec =
@@ -187,6 +199,9 @@ is-keyword-spec =
     enum-told-12
     slice-aggregate-same-12
     same-requires-12
+    enum-told-13
+    slice-aggregate-same-13
+    same-requires-13
     returns
     returns-2
     returns-3
@@ -198,4 +213,5 @@ is-keyword-spec =
     returns-9
     returns-10
     returns-11
-    returns-12)
+    returns-12
+    returns-13)

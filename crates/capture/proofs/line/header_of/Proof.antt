@@ -30,11 +30,17 @@ word-at-requires-4 c κs = search needs
 small-or-zero-requires-2 : tie.Need-small-or-zero-requires-2
 small-or-zero-requires-2 c κs = search needs
 
+add-word-at : tie.Need-add-word-at
+add-word-at c = search needs
+
 word-at-requires-5 : tie.Need-word-at-requires-5
 word-at-requires-5 c κs = search needs
 
 value-or-zero-requires : tie.Need-value-or-zero-requires
 value-or-zero-requires c κs = search needs
+
+add-word-at-2 : tie.Need-add-word-at-2
+add-word-at-2 c = search needs
 
 word-at-requires-6 : tie.Need-word-at-requires-6
 word-at-requires-6 c κs = search needs
@@ -73,8 +79,10 @@ header-of-spec =
     small-or-zero-requires
     word-at-requires-4
     small-or-zero-requires-2
+    add-word-at
     word-at-requires-5
     value-or-zero-requires
+    add-word-at-2
     word-at-requires-6
     value-or-zero-requires-2
     returns)

@@ -1,30 +1,56 @@
--- `capture::line::receiver_line` meets its contract: by what `check_words` gives. Assumes nothing.
+-- `capture::line::receiver_line` meets its contract: by the word behind the version. Assumes nothing.
 use Rattle.capture.specs.Lines.{receiverLine}
 use borrow.Author.Needs.{needs}
 use Rattle.capture.proofs.line.receiver_line.Statement.{statement}
 use Rattle.capture.proofs.line.receiver_line.Tie as tie
 
-check-words-requires : tie.Need-check-words-requires
-check-words-requires c κs = search needs
+word-at-requires : tie.Need-word-at-requires
+word-at-requires c κs = search needs
 
-enum-known-f : tie.Need-enum-known-f
-enum-known-f c = search needs
+is-keyword-requires : tie.Need-is-keyword-requires
+is-keyword-requires c κs = search needs
 
-enum-told : tie.Need-enum-told
-enum-told c = search needs
+add-word-at : tie.Need-add-word-at
+add-word-at c = search needs
 
-header-of-requires : tie.Need-header-of-requires
-header-of-requires c κs = search needs
+word-at-requires-2 : tie.Need-word-at-requires-2
+word-at-requires-2 c κs = search needs
+
+small-or-zero-requires : tie.Need-small-or-zero-requires
+small-or-zero-requires c κs = search needs
+
+add-header-line : tie.Need-add-header-line
+add-header-line c = search needs
+
+header-line-requires : tie.Need-header-line-requires
+header-line-requires c κs = search needs
 
 returns : tie.Need-returns
 unfolding receiverLine
-returns c = simp (← c .before .before .before .check-words .ensures, c .before .f .given .1)
+returns c =
+    let f = c .before .before .before in
+    simp (← f .before .before .word-at .ensures, ← f .before .is-keyword .ensures, f .if1 .taken, ← c .before .before .word-at2 .ensures, ← c .before .small-or-zero .ensures) (c .header-line .ensures)
+
+header-line-requires-2 : tie.Need-header-line-requires-2
+header-line-requires-2 c κs = search needs
 
 returns-2 : tie.Need-returns-2
 unfolding receiverLine
-returns-2 c = simp (← c .before .before .before .check-words .ensures, c .before .enum-told .given .1, c .header-of .ensures)
+returns-2 c =
+    let f = c .before in
+    simp (← f .before .before .word-at .ensures, ← f .before .is-keyword .ensures, f .if1 .left) (c .header-line2 .ensures)
 
 pub receiver-line-spec : {M : Type 1} → statement M
 receiver-line-spec =
     tie.close
-    (tie.spec check-words-requires enum-known-f enum-told header-of-requires returns returns-2)
+    (tie.spec
+    word-at-requires
+    is-keyword-requires
+    add-word-at
+    word-at-requires-2
+    small-or-zero-requires
+    add-header-line
+    header-line-requires
+    returns
+    header-line-requires-2
+    returns-2)

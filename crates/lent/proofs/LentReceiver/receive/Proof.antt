@@ -47,6 +47,7 @@ use denote.Triple.Table.{entered, cited}
 use denote.Triple.Walked.{says, Stays, stay-ref, stay-none, stay-none-slice, gave-slice, walkOf, AllGo, goes-none, goes-ref, goes-none-slice, goes-gave-slice, Walks, ends-at, walked, walk-meets}
 use denote.Triple.Clauses.{ensured, lasts}
 use denote.Exit.{yes}
+use Rattle.receiver.specs.Record.{intervalOf}
 use Rattle.receiver.specs.Receive.{receiveOf}
 use Rattle.receiver.specs.Says.{received}
 use Rattle.receiver.specs.declared.Receiver.{Receiver}
@@ -225,7 +226,7 @@ module _ {M : Type 1} (𝓤 : URA M) (H : Heap 𝓤) (A : Atoms 𝓤) (W : Given
 
   -- what is ensured of the answer, of the record and of the last lists
   abbrev Says : Receive → List ℕ → List ℕ → Type 0
-  Says r store′ output′ = received r store′ output′ ≡ receiveOf 300000 h (record { peer = peer; protocol = protocol; segment = segment; octets = octets .now; unparsed = unparsed; reading = reading }) (store .now) (output .now)
+  Says r store′ output′ = received r store′ output′ ≡ receiveOf (intervalOf h) h (record { peer = peer; protocol = protocol; segment = segment; octets = octets .now; unparsed = unparsed; reading = reading }) (store .now) (output .now)
 
   abbrev Held-octets : Fml
   Held-octets = ShrSlice (named 1) κ1 u8 .own octets (slice octets ∷ [])

@@ -30,12 +30,12 @@ empty-requires-2 c κs = search needs
 returns : tie.Need-returns
 returns c =
     let x = c .before .before .before .before .before .before .args in
-    try-refused (record { peer = x .peer; protocol = x .protocol; «transaction_id» = x .transaction-id; version = x .version; «maximum_message_octets» = x .maximum-message-octets }) (x .monotonic-ms) _ (c .empty .result) (c .empty .ensures ∙ ap (λ (t : Terms). empty t state.Canceled 0) (c .before .no-terms .ensures)) (ap checkSays (sym (c .before .before .before .e .given .1)) ∙ c .before .before .before .before .before .terms-check .ensures)
+    try-refused (record { peer = x .peer; protocol = x .protocol; «transaction_id» = x .transaction-id; version = x .version; profile = x .profile; «maximum_message_octets» = x .maximum-message-octets }) (x .monotonic-ms) _ (c .empty .result) (c .empty .ensures ∙ ap (λ (t : Terms). empty t state.Canceled 0) (c .before .no-terms .ensures)) (ap checkSays (sym (c .before .before .before .e .given .1)) ∙ c .before .before .before .before .before .terms-check .ensures)
 
 returns-2 : tie.Need-returns-2
 returns-2 c =
     let x = c .before .before .before .before .args in
-    try-made (record { peer = x .peer; protocol = x .protocol; «transaction_id» = x .transaction-id; version = x .version; «maximum_message_octets» = x .maximum-message-octets }) (x .monotonic-ms) (c .empty2 .result) (c .empty2 .ensures) (ap checkSays (sym (c .before .enum-told .given .1)) ∙ c .before .before .before .terms-check .ensures)
+    try-made (record { peer = x .peer; protocol = x .protocol; «transaction_id» = x .transaction-id; version = x .version; profile = x .profile; «maximum_message_octets» = x .maximum-message-octets }) (x .monotonic-ms) (c .empty2 .result) (c .empty2 .ensures) (ap checkSays (sym (c .before .enum-told .given .1)) ∙ c .before .before .before .terms-check .ensures)
 
 pub try-new-spec : {M : Type 1} → statement M
 try-new-spec =

@@ -20,7 +20,7 @@ abbrev codec : (c : tie.Start) → List (Bool × Refusal)
 codec c = let x = c .args in codecRows (x .version) (x .brought .segment) (x .brought .octets)
 
 abbrev rows : (c : tie.Start) → List (Bool × Refusal)
-rows c = takenRows 300000 (c .args .state) (c .args .brought)
+rows c = takenRows (c .args .interval) (c .args .state) (c .args .brought)
 
 -- the codec has nothing against it
 valid : (c : tie.After-enum-told) → none ≡ refusal (codec (c .before .before .before .before))
@@ -72,6 +72,9 @@ both-requires c κs = search needs
 returns-3 : tie.Need-returns-3
 returns-3 c = behind-decides (codec (c .before .before .before .before .before .before .before .before .before .before .before .before)) (rows (c .before .before .before .before .before .before .before .before .before .before .before .before)) _ (valid (c .before .before .before .before .before .before .before .before)) (sym (stop (0, 0) (passed-2 (c .before .before .before .before)) (sym (asked (c .before)) ∙ c .if3 .taken)))
 
+sub-if4 : tie.Need-sub-if4
+sub-if4 c = search needs
+
 returns-4 : tie.Need-returns-4
 returns-4 c = behind-decides (codec (c .before .before .before .before .before .before .before .before .before .before .before .before .before .before)) (rows (c .before .before .before .before .before .before .before .before .before .before .before .before .before .before)) _ (valid (c .before .before .before .before .before .before .before .before .before .before)) (sym (stop (0, 0) (passed-3 (c .before .before)) (lt-ltb _ _ (c .if4 .taken))))
 
@@ -95,6 +98,7 @@ segment-check-spec =
     is-begin-requires
     both-requires
     returns-3
+    sub-if4
     returns-4
     returns-5
     returns-6)

@@ -1,4 +1,4 @@
--- `receiver_image::heads::put_terms` meets its contract: the peer, four octets, and the maximum. Assumes nothing.
+-- `receiver_image::heads::put_terms` meets its contract: the peer, five octets, and the maximum. Assumes nothing.
 use borrow.Author.Needs.{needs}
 use mathlib.Core.Path.{_≡_, ap, _∙_}
 use lib.Seq.{sets}

@@ -46,7 +46,7 @@ returns : tie.Need-returns
 unfolding headOf
 returns c =
     let l = now (c .before .before .before .before .before .before .before .args .l) in
-    rw (c .get-marks .ensures .0, rest-of 58 l, c .before .before .read-progress .ensures, rest-of 23 l, c .before .before .before .before .read-terms .ensures, rest-of 1 l)
+    rw (c .get-marks .ensures .0, rest-of 59 l, c .before .before .read-progress .ensures, rest-of 24 l, c .before .before .before .before .read-terms .ensures, rest-of 1 l)
 
 pub read-head-spec : {M : Type 1} → statement M
 read-head-spec =

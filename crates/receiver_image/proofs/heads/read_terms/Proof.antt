@@ -30,11 +30,14 @@ shared-slice-read-t10 c = search needs
 shared-slice-read-t12 : tie.Need-shared-slice-read-t12
 shared-slice-read-t12 c = search needs
 
+shared-slice-read-t14 : tie.Need-shared-slice-read-t14
+shared-slice-read-t14 c = search needs
+
 returns : tie.Need-returns
 unfolding termsOf
 returns c =
-    let l = now (c .before .before .before .before .before .before .before .args .l) in
-    rw (c .before .before .number64 .ensures .reads, c .before .before .before .read-protocol .ensures, rest-of 10 l, c .before .before .before .before .before .get-peer .ensures .0)
+    let l = now (c .before .before .before .before .before .before .before .before .args .l) in
+    rw (c .before .before .before .number64 .ensures .reads, c .before .before .before .before .read-protocol .ensures, rest-of 10 l, c .before .before .before .before .before .before .get-peer .ensures .0)
 
 pub read-terms-spec : {M : Type 1} → statement M
 read-terms-spec =
@@ -48,4 +51,5 @@ read-terms-spec =
     number64-requires
     shared-slice-read-t10
     shared-slice-read-t12
+    shared-slice-read-t14
     returns)

@@ -15,7 +15,7 @@ use Rattle.receiver_image.proofs.slots.put_lengths.Statement.{statement
 use Rattle.receiver_image.proofs.slots.put_lengths.Tie as tie
 
 abbrev Inv-loop : tie.InvT-loop
-Inv-loop dst₀ lengths i₀ dst i = (i ≤ 256) × (dst ≡ sets dst₀ 90 (spellAll (spell 2) (take i lengths))) × ((k : ℕ) → k < i → LengthFits (getD lengths k 0))
+Inv-loop dst₀ lengths i₀ dst i = (i ≤ 256) × (dst ≡ sets dst₀ 91 (spellAll (spell 2) (take i lengths))) × ((k : ℕ) → k < i → LengthFits (getD lengths k 0))
 
 abbrev μ-loop : tie.MeasureT-loop
 μ-loop dst₀ lengths i₀ dst i = 256 - i
@@ -27,7 +27,7 @@ lengths-256 c = c .good .1 .0 .1 .0 .1
 loop-holds : tie.Need-loop-holds Inv-loop μ-loop
 loop-holds c =
     let x = c .before .args in
-    (omega arith, spell-none (spell 2) (now (x .dst)) 90 (x .t2), λ k h. absurd (omega arith))
+    (omega arith, spell-none (spell 2) (now (x .dst)) 91 (x .t2), λ k h. absurd (omega arith))
 
 mul-put16 : tie.Need-mul-put16 Inv-loop μ-loop
 mul-put16 c = search needs
@@ -58,15 +58,15 @@ loop-again c =
     let p = c .before .before .put16 .ensures in
     let m : length (x .t2) ≡ 256 = lengths-256 (c .before .before .before .before .before .before .before) in (
       omega arith,
-      p .0 ∙ ap (λ (l : List ℕ). sets l (90 + 2 * i) ((spell 2) (getD (x .t2) i 0))) (v .1)
-          ∙ put-turn (spell 2) 2 0 (now (x .dst)) 90 (x .t2) i (λ k h. length-spell 2 (getD (x .t2) k 0)) (omega arith),
+      p .0 ∙ ap (λ (l : List ℕ). sets l (91 + 2 * i) ((spell 2) (getD (x .t2) i 0))) (v .1)
+          ∙ put-turn (spell 2) 2 0 (now (x .dst)) 91 (x .t2) i (λ k h. length-spell 2 (getD (x .t2) k 0)) (omega arith),
       below-more _ _ (v .2) (p .1),
     )
 
 same-length : tie.Need-same-length Inv-loop μ-loop
 same-length c =
     let x = c .before .before .before .args in
-    ap length (c .before .loop .inv .1) ∙ length-sets (now (x .dst)) 90 (spellAll (spell 2) (take (c .before .loop .i) (x .t2)))
+    ap length (c .before .loop .inv .1) ∙ length-sets (now (x .dst)) 91 (spellAll (spell 2) (take (c .before .loop .i) (x .t2)))
 
 returns : tie.Need-returns Inv-loop μ-loop
 returns c =
@@ -74,7 +74,7 @@ returns c =
     let v = c .before .loop .inv in
     let i = c .before .loop .i in
     let m : length (x .t2) ≡ 256 = lengths-256 (c .before .before .before) in (
-      v .1 ∙ ap (λ (l : List ℕ). sets (now (x .dst)) 90 (spellAll (spell 2) l)) (take-all i (x .t2) (omega arith)),
+      v .1 ∙ ap (λ (l : List ℕ). sets (now (x .dst)) 91 (spellAll (spell 2) l)) (take-all i (x .t2) (omega arith)),
       record { many = m; each = λ k h. v .2 k (omega arith) },
     )
 

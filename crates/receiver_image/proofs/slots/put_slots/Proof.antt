@@ -17,7 +17,7 @@ use Rattle.receiver_image.proofs.slots.put_slots.Statement.{statement}
 use Rattle.receiver_image.proofs.slots.put_slots.Tie as tie
 
 abbrev Inv-loop : tie.InvT-loop
-Inv-loop dst₀ slots i₀ dst i = (i ≤ 256) × (dst ≡ sets dst₀ 602 (spellAll slotImage (take i slots))) × ((k : ℕ) → k < i → SlotFits (getD slots k noSlot))
+Inv-loop dst₀ slots i₀ dst i = (i ≤ 256) × (dst ≡ sets dst₀ 603 (spellAll slotImage (take i slots))) × ((k : ℕ) → k < i → SlotFits (getD slots k noSlot))
 
 abbrev μ-loop : tie.MeasureT-loop
 μ-loop dst₀ slots i₀ dst i = 256 - i
@@ -29,7 +29,7 @@ slots-256 c = c .good .1 .0 .1 .0 .1
 loop-holds : tie.Need-loop-holds Inv-loop μ-loop
 loop-holds c =
     let x = c .before .args in
-    (omega arith, spell-none slotImage (now (x .dst)) 602 (x .t2), λ k h. absurd (omega arith))
+    (omega arith, spell-none slotImage (now (x .dst)) 603 (x .t2), λ k h. absurd (omega arith))
 
 mul-slot : tie.Need-mul-slot Inv-loop μ-loop
 mul-slot c = search needs
@@ -60,15 +60,15 @@ loop-again c =
     let p = c .before .before .put-kind .ensures in
     let m : length (x .t2) ≡ 256 = slots-256 (c .before .before .before .before .before .before .before .before) in (
       omega arith,
-      p .0 ∙ ap (λ (l : List ℕ). sets l (602 + 13 * i) (slotImage (getD (x .t2) i noSlot))) (v .1)
-          ∙ put-turn slotImage 13 noSlot (now (x .dst)) 602 (x .t2) i (λ k h. kind-wide (getD (x .t2) k noSlot .kind)) (omega arith),
+      p .0 ∙ ap (λ (l : List ℕ). sets l (603 + 13 * i) (slotImage (getD (x .t2) i noSlot))) (v .1)
+          ∙ put-turn slotImage 13 noSlot (now (x .dst)) 603 (x .t2) i (λ k h. kind-wide (getD (x .t2) k noSlot .kind)) (omega arith),
       below-more _ _ (v .2) (p .1),
     )
 
 same-length : tie.Need-same-length Inv-loop μ-loop
 same-length c =
     let x = c .before .before .before .args in
-    ap length (c .before .loop .inv .1) ∙ length-sets (now (x .dst)) 602 (spellAll slotImage (take (c .before .loop .i) (x .t2)))
+    ap length (c .before .loop .inv .1) ∙ length-sets (now (x .dst)) 603 (spellAll slotImage (take (c .before .loop .i) (x .t2)))
 
 returns : tie.Need-returns Inv-loop μ-loop
 returns c =
@@ -76,7 +76,7 @@ returns c =
     let v = c .before .loop .inv in
     let i = c .before .loop .i in
     let m : length (x .t2) ≡ 256 = slots-256 (c .before .before .before) in (
-      v .1 ∙ ap (λ (l : List Slot). sets (now (x .dst)) 602 (spellAll slotImage l)) (take-all i (x .t2) (omega arith)),
+      v .1 ∙ ap (λ (l : List Slot). sets (now (x .dst)) 603 (spellAll slotImage l)) (take-all i (x .t2) (omega arith)),
       record { many = m; each = λ k h. v .2 k (omega arith) },
     )
 

@@ -24,10 +24,10 @@ enum-told : tie.Need-enum-told
 enum-told c = search needs
 
 cast-n : tie.Need-cast-n
-cast-n c = let z = segments (c .before .before .before .before .args .outline .count) (c .before .before .before .before .args .self) (refusal-none (clockRows (c .before .before .before .before .args .outline) (c .before .before .before .before .args .self) (c .before .before .before .before .args .monotonic-ms)) (pass-said (c .before .before .before .check-clock .result) _ (c .before .enum-told .given .1) (c .before .before .before .check-clock .ensures)) 0) in record { fits = omega arith }
+cast-n c = let z = segments (c .before .before .before .before .args .outline) (c .before .before .before .before .args .self) (refusal-none (clockRows (c .before .before .before .before .args .outline) (c .before .before .before .before .args .self) (c .before .before .before .before .args .monotonic-ms)) (pass-said (c .before .before .before .check-clock .result) _ (c .before .enum-told .given .1) (c .before .before .before .check-clock .ensures)) 0) in record { fits = omega arith }
 
 advanced-requires : tie.Need-advanced-requires
-advanced-requires c κs = let z = segments (c .before .before .before .before .args .outline .count) (c .before .before .before .before .args .self) (refusal-none (clockRows (c .before .before .before .before .args .outline) (c .before .before .before .before .args .self) (c .before .before .before .before .args .monotonic-ms)) (pass-said (c .before .before .before .check-clock .result) _ (c .before .enum-told .given .1) (c .before .before .before .check-clock .ensures)) 0) in (omega arith, z .1)
+advanced-requires c κs = let z = segments (c .before .before .before .before .args .outline) (c .before .before .before .before .args .self) (refusal-none (clockRows (c .before .before .before .before .args .outline) (c .before .before .before .before .args .self) (c .before .before .before .before .args .monotonic-ms)) (pass-said (c .before .before .before .check-clock .result) _ (c .before .enum-told .given .1) (c .before .before .before .check-clock .ensures)) 0) in (omega arith, z .1)
 
 enum-told-2 : tie.Need-enum-told-2
 enum-told-2 c = search needs

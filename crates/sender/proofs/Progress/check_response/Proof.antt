@@ -38,7 +38,7 @@ enum-told-3 : tie.Need-enum-told-3
 enum-told-3 c = search needs
 
 check-entries-requires : tie.Need-check-entries-requires
-check-entries-requires c κs = segments (c .before .before .before .before .before .before .before .before .before .before .args .outline .count) (c .before .before .before .before .before .before .before .before .before .before .args .self) (refusal-none (clockRows (c .before .before .before .before .before .before .before .before .before .before .args .outline) (c .before .before .before .before .before .before .before .before .before .before .args .self) (c .before .before .before .before .before .before .before .before .before .before .args .arrival .reading)) (pass-said (c .before .before .before .before .before .before .before .before .before .check-clock .result) _ (c .before .before .before .before .before .before .before .enum-told .given .1) (c .before .before .before .before .before .before .before .before .before .check-clock .ensures)) 0) .1
+check-entries-requires c κs = segments (c .before .before .before .before .before .before .before .before .before .before .args .outline) (c .before .before .before .before .before .before .before .before .before .before .args .self) (refusal-none (clockRows (c .before .before .before .before .before .before .before .before .before .before .args .outline) (c .before .before .before .before .before .before .before .before .before .before .args .self) (c .before .before .before .before .before .before .before .before .before .before .args .arrival .reading)) (pass-said (c .before .before .before .before .before .before .before .before .before .check-clock .result) _ (c .before .before .before .before .before .before .before .enum-told .given .1) (c .before .before .before .before .before .before .before .before .before .check-clock .ensures)) 0) .1
 
 returns : tie.Need-returns
 returns c = sym (first-refuses (clockRows (c .before .before .before .before .args .outline) (c .before .before .before .before .args .self) (c .before .before .before .before .args .arrival .reading)) ((arrivalRows (c .before .before .before .before .args .terms) (c .before .before .before .before .args .self) (c .before .before .before .before .args .arrival)) ++ ((responseRows (c .before .before .before .before .args .terms .version) (c .before .before .before .before .args .arrival .response)) ++ (entryRows (c .before .before .before .before .args .outline) (c .before .before .before .before .args .self) (c .before .before .before .before .args .arrival .response)))) _ (refuse-said (c .before .before .before .check-clock .result) _ _ (c .before .e .given .1) (c .before .before .before .check-clock .ensures)))

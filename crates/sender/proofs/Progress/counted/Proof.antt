@@ -15,11 +15,11 @@ without-requires c κs = search needs
 deadline-after-requires : tie.Need-deadline-after-requires
 deadline-after-requires c κs = c .before .before .before .before .before .pre .in-time
 
-add-t12 : tie.Need-add-t12
-add-t12 c = search needs
+add-t13 : tie.Need-add-t13
+add-t13 c = search needs
 
 returns : tie.Need-returns
 returns c = simp (c .before .before .before .before .with .ensures, c .before .before .before .without .ensures, c .before .before .deadline-after .ensures, c .before .before .before .before .before .index .ensures)
 
 pub counted-spec : {M : Type 1} → statement M
-counted-spec = tie.close (tie.spec index-requires with-requires without-requires deadline-after-requires add-t12 returns)
+counted-spec = tie.close (tie.spec index-requires with-requires without-requires deadline-after-requires add-t13 returns)

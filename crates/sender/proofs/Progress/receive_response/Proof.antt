@@ -21,7 +21,7 @@ enum-told : tie.Need-enum-told
 enum-told c = search needs
 
 late-first-requires : tie.Need-late-first-requires
-late-first-requires c κs = let z = segments (c .before .before .before .args .outline .count) (c .before .before .before .args .self) (refusal-none (responseRowsOf (c .before .before .before .args .terms) (c .before .before .before .args .outline) (c .before .before .before .args .self) (c .before .before .before .args .arrival)) (pass-said (c .before .before .check-response .result) _ (c .enum-told .given .1) (c .before .before .check-response .ensures)) 0) in (omega arith, z .1)
+late-first-requires c κs = let z = segments (c .before .before .before .args .outline) (c .before .before .before .args .self) (refusal-none (responseRowsOf (c .before .before .before .args .terms) (c .before .before .before .args .outline) (c .before .before .before .args .self) (c .before .before .before .args .arrival)) (pass-said (c .before .before .check-response .result) _ (c .enum-told .given .1) (c .before .before .check-response .ensures)) 0) in (omega arith, z .1)
 
 returns : tie.Need-returns
 unfolding receiveResponseIn

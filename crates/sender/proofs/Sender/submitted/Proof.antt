@@ -1,6 +1,7 @@
 -- `sender::Sender::submitted` meets its contract: what the call gave of the progress, in its sender. Assumes nothing.
 use borrow.Author.Needs.{needs}
 use mathlib.Core.Path.{ap, _∙_}
+use Rattle.link.specs.Profile.{senderInterval}
 use Rattle.sender.specs.declared.Outline.{Outline}
 use Rattle.sender.specs.Calls.{placed, submittedIn, submittedOf}
 use Rattle.sender.proofs.Sender.submitted.Statement.{statement}
@@ -17,7 +18,7 @@ placed-requires c κs = search needs
 
 returns : tie.Need-returns
 unfolding submittedOf
-returns c = c .placed .ensures ∙ ap (placed (c .before .before .before .before .before .args .self)) (c .before .submitted .ensures ∙ ap (λ (o : Outline). submittedIn 330000 (c .before .before .before .before .before .args .self .terms .number) o (c .before .before .before .before .before .args .self .progress) (c .before .before .before .before .before .args .number) (c .before .before .before .before .before .args .ticket) (c .before .before .before .before .before .args .queued-monotonic-ms) (c .before .before .before .before .before .args .observed-monotonic-ms)) (c .before .before .outline .ensures))
+returns c = c .placed .ensures ∙ ap (placed (c .before .before .before .before .before .args .self)) (c .before .submitted .ensures ∙ ap (λ (o : Outline). submittedIn (senderInterval (o .profile)) (c .before .before .before .before .before .args .self .terms .number) o (c .before .before .before .before .before .args .self .progress) (c .before .before .before .before .before .args .number) (c .before .before .before .before .before .args .ticket) (c .before .before .before .before .before .args .queued-monotonic-ms) (c .before .before .before .before .before .args .observed-monotonic-ms)) (c .before .before .outline .ensures))
 
 pub submitted-spec : {M : Type 1} → statement M
 submitted-spec = tie.close (tie.spec outline-requires submitted-requires placed-requires returns)

@@ -37,7 +37,7 @@ returns : tie.Need-returns
 returns c =
     let l = now (c .before .before .before .before .before .before .before .before .args .l) in
     let r = c .before .before .before .before .before .before .read-head in
-    (c .same .ensures ∙ put-again head-layout l (replicate 173 0) _ (r .result) (length-replicate {A = ℕ} 173 0) (r .ensures) (c .before .before .before .before .put-head .ensures .0), r .ensures)
+    (c .same .ensures ∙ put-again head-layout l (replicate 174 0) _ (r .result) (length-replicate {A = ℕ} 174 0) (r .ensures) (c .before .before .before .before .put-head .ensures .0), r .ensures)
 
 pub get-head-spec : {M : Type 1} → statement M
 get-head-spec =

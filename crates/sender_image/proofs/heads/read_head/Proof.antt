@@ -34,7 +34,7 @@ returns : tie.Need-returns
 unfolding headOf
 returns c =
     let l = now (c .before .before .before .before .before .args .l) in
-    rw (c .read-progress .ensures, rest-of 22 l, c .before .before .read-terms .ensures, rest-of 1 l)
+    rw (c .read-progress .ensures, rest-of 23 l, c .before .before .read-terms .ensures, rest-of 1 l)
 
 pub read-head-spec : {M : Type 1} → statement M
 read-head-spec =
