@@ -1,6 +1,6 @@
 -- What is done with the receiver of a section that has ended, by the octets that the code reads: the first of the memory, the state's and the
 -- last reading. Where the memory is too short to have these the exports refuse either call, whatever the reading. Assumes nothing.
-use Prim.Native.Nat.{ℕ, zero, suc, ◌-◌, ◌≤◌, ◌<◌}
+use Prim.Native.Nat.{ℕ, zero, suc, ◌≤◌, ◌<◌}
 use mathlib.Core.Path.{◌≡◌, refl, sym, ap, ap₂, ◌∙◌}
 use mathlib.Core.Bool.{Bool, true, false, cond}
 use mathlib.Core.Logic.{⊎_elim}

@@ -2,11 +2,11 @@
 -- closed and, where it took segments, a store whose first 65,280 octets are 0. It holds of every receiver whose numbers fit their types and that
 -- is none of 62's, with anything behind it in the memory, and of every store that is long enough; the refill with A5 has no part in it. None
 -- of the refusals 60, 62, 33 and 38 can come, since the reading is the record's own. Assumes nothing.
-use Prim.Native.Nat.{ℕ, ◌+◌, ◌≤◌, ◌<◌}
+use Prim.Native.Nat.{ℕ, ◌≤◌, ◌<◌}
 use mathlib.Core.Path.{◌≡◌, refl, sym, ap, ap₂, ◌∙◌, subst}
 use mathlib.Core.Bool.{Bool, true, false, cond, not, ◌&&◌, ◌||◌, true≢false}
 use mathlib.Core.Logic.{⊎_elim}
-use mathlib.Core.List.{List, [], ◌∷◌, ◌++◌}
+use mathlib.Core.List.{List, [], ◌++◌}
 use mathlib.Core.Option.{none, some}
 use native.Mathlib.Omega.{arith}
 use borrow.Author.Tests.{le-ltb, eqb-true, not-true, not-false}

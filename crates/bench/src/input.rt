@@ -1,14 +1,14 @@
 // Reading lines: octets come by chunks, and a line is put together in lent octets.
 use capture::text::{Class, from, front, run};
+use std::io;
+use std::io::Read;
 
-// What reading has come to: a part of a line, a line, the end of the input, or a failure.
+// What reading has come to: a part of a line, a line, or the end of the input.
 pub const PART: u8 = 0;
 
 pub const LINE: u8 = 1;
 
 pub const END: u8 = 2;
-
-pub const FAILED: u8 = 3;
 
 pub const CHUNK: usize = 65536;
 
@@ -21,7 +21,7 @@ pub type Text = [u8; MAX_LINE];
 
 // Where reading stands: octets at to end of the chunk are not used yet, and the line has so many octets so far, of which the first stand in
 // the lent octets, as far as they go.
-#[derive(Drop)]
+#[derive(Clone, Copy)]
 pub struct Input {
     pub at: usize,
     pub end: usize,
@@ -66,38 +66,39 @@ impl Input {
         self
     }
 
-    fn read(mut self, fd: i32, chunk: &mut Chunk) -> Input {
-        let got = libc::read(fd, chunk);
-        if got < 0 {
-            self.got = FAILED;
-            return self;
-        }
+    fn read(mut self, file: &mut impl Read, chunk: &mut Chunk) -> io::Result<Input> {
+        self.end = file.read(chunk)?;
         self.at = 0;
-        self.end = io::count(got, chunk);
         if self.end == 0 {
             self.got = last(self.have);
         }
-        self
+        Ok(self)
     }
 
     // Takes what is left of the chunk, or reads another.
-    fn step(self, fd: i32, chunk: &mut Chunk, line: &mut Text) -> Input {
+    fn step(self, file: &mut impl Read, chunk: &mut Chunk, line: &mut Text) -> io::Result<Input> {
         if self.at < self.end {
-            return self.take(chunk, line);
+            return Ok(self.take(chunk, line));
         }
-        self.read(fd, chunk)
+        self.read(file, chunk)
     }
 }
 
-// The next line. A line ends, but nothing says so: the turns are counted down from a number that no line uses up.
-pub fn next_line(input: Input, fd: i32, chunk: &mut Chunk, line: &mut Text) -> Input {
+// The next line. A line ends, but nothing says so: the turns are counted up to a number that no line uses up.
+pub fn next_line(
+    input: Input,
+    file: &mut impl Read,
+    chunk: &mut Chunk,
+    line: &mut Text,
+) -> io::Result<Input> {
     let mut input = input;
     input.have = 0;
     input.got = PART;
-    let mut turns = u64::MAX;
-    while turns > 0 && input.got == PART {
-        turns -= 1;
-        input = input.step(fd, chunk, line);
+    for _ in 0..u64::MAX {
+        if input.got != PART {
+            break;
+        }
+        input = input.step(file, chunk, line)?;
     }
-    input
+    Ok(input)
 }

@@ -1,22 +1,25 @@
 // Rebuilds the records of captures (docs/CAPTURE.md): reads standard input, or the files that are named, feeds the receiver of each section,
 // and prints a line for each event and a result for each section. The last line says whether every record was rebuilt.
+#![tactic(auto)]
+
 mod input;
 mod run;
 mod section;
 mod session;
 
 use capture::text::front;
-use libc::STDERR_FILENO;
 use report::outcome::{Event, Told, end_section, is_every, note, start};
 use report::say;
 use session::{Counts, more};
+use std::env::FillError;
+use std::rt::{Env, Files};
+use std::str::from_utf8;
+use std::{fs, io};
 
 // The longest path.
 const PATH: usize = 4096;
 
 type Path = [u8; PATH];
-
-const STDIN: i32 = 0;
 
 // What an argument is: a file, standard input, an option, or nothing that may stand there.
 const FILE: u8 = 0;
@@ -52,17 +55,27 @@ fn kind_of(word: &[u8]) -> u8 {
     NO_OPTION
 }
 
-fn argument_kind(i: usize) -> u8 {
+// How many arguments there are, the program's name among them.
+fn argument_count(rt: &impl Env) -> usize {
     let mut path = [0u8; PATH];
-    let n = os::arg(i, &mut path);
-    if os::errno() != 0 {
-        return TOO_LONG;
+    for i in 0..usize::MAX {
+        if let Err(FillError::NotPresent) = rt.arg(i, &mut path) {
+            return i;
+        }
     }
-    kind_of(front(&path, n))
+    usize::MAX
+}
+
+fn argument_kind(rt: &impl Env, i: usize) -> u8 {
+    let mut path = [0u8; PATH];
+    match rt.arg(i, &mut path) {
+        Ok(n) => kind_of(front(&path, n)),
+        Err(_) => TOO_LONG,
+    }
 }
 
 // What the arguments ask for: help; the bench's own advances; how many captures; and what is wrong with one, FILE where nothing is.
-#[derive(Drop)]
+#[derive(Clone, Copy)]
 struct Options {
     help: bool,
     waits: bool,
@@ -83,136 +96,181 @@ impl Options {
     }
 }
 
-fn asked(count: usize) -> Options {
+fn asked(rt: &impl Env, count: usize) -> Options {
     let mut options = Options {
         help: false,
         waits: true,
         captures: 0,
         wrong: FILE,
     };
-    let mut i: usize = 1;
-    while i < count {
-        options = options.with(argument_kind(i));
-        i += 1;
+    for i in 1..count {
+        options = options.with(argument_kind(rt, i));
     }
     options
 }
 
+// The file at a path. A path is text: one of other octets cannot be opened.
+fn open<R: Files>(rt: &R, path: &[u8]) -> io::Result<R::File> {
+    match from_utf8(path) {
+        Ok(text) => fs::open(rt, text),
+        Err(_) => Err(io::Error::from(io::ErrorKind::InvalidFilename)),
+    }
+}
+
+// Says why a path could not be opened.
+fn say_failed(rt: &impl Eprint, path: &[u8], e: io::Error) -> io::Result<()> {
+    match from_utf8(path) {
+        Ok(text) => eprintln!(rt; "{text}: {e}"),
+        Err(_) => eprintln!(rt; "{}: {e}", path.escape_ascii()),
+    }
+}
+
 // The capture at a path.
-fn at_path(told: Told, waits: bool, path: &[u8], counts: &mut Counts) -> Told {
-    let fd = os::open_read(path);
-    if fd < 0 {
-        os::fail(path);
-        say::say(say::NOT_OPENED, 0, 0);
-        say::end_line();
-        return end_section(note(told, Event::BadLine));
+fn at_path(
+    rt: &(impl Files + Print + Eprint),
+    told: Told,
+    waits: bool,
+    path: &[u8],
+    counts: &mut Counts,
+) -> io::Result<Told> {
+    match open(rt, path) {
+        Ok(mut file) => run::capture(rt, told, waits, &mut file, counts),
+        Err(e) => {
+            say_failed(rt, path, e)?;
+            say::say(rt, say::NOT_OPENED, 0, 0)?;
+            say::end_line(rt)?;
+            Ok(end_section(note(told, Event::BadLine)))
+        }
     }
-    let told = run::capture(told, waits, fd, counts);
-    libc::close(fd);
-    told
 }
 
-fn say_heading(several: bool, path: &[u8]) {
+fn say_heading(rt: &impl Print, several: bool, path: &[u8]) -> io::Result<()> {
     if several {
-        say::say(say::HEADING, 0, 0);
-        say::print(path);
-        say::end_line();
+        say::say(rt, say::HEADING, 0, 0)?;
+        say::print(rt, path)?;
+        say::end_line(rt)?;
     }
+    Ok(())
 }
 
-fn from_stdin(told: Told, waits: bool, counts: &mut Counts) -> Told {
+fn from_stdin(
+    rt: &(impl Input + Print + Eprint),
+    told: Told,
+    waits: bool,
+    counts: &mut Counts,
+) -> io::Result<Told> {
     counts[session::CAPTURES] = more(counts[session::CAPTURES]);
-    run::capture(told, waits, STDIN, counts)
+    run::capture(rt, told, waits, &mut rt.reader(), counts)
 }
 
 // The capture that argument i names, where it names one.
-fn named(told: Told, waits: bool, several: bool, i: usize, counts: &mut Counts) -> Told {
+fn named(
+    rt: &(impl Env + Files + Input + Print + Eprint),
+    told: Told,
+    waits: bool,
+    several: bool,
+    i: usize,
+    counts: &mut Counts,
+) -> io::Result<Told> {
     let mut path = [0u8; PATH];
-    let n = os::arg(i, &mut path);
+    let n = rt.arg(i, &mut path).unwrap_or(0);
     let kind = kind_of(front(&path, n));
     if kind == DASH {
-        say_heading(several, b"standard input");
-        return from_stdin(told, waits, counts);
+        say_heading(rt, several, b"standard input")?;
+        return from_stdin(rt, told, waits, counts);
     }
     if kind != FILE {
-        return told;
+        return Ok(told);
     }
-    say_heading(several, front(&path, n));
+    say_heading(rt, several, front(&path, n))?;
     counts[session::CAPTURES] = more(counts[session::CAPTURES]);
-    at_path(told, waits, front(&path, n), counts)
+    at_path(rt, told, waits, front(&path, n), counts)
 }
 
-fn all(count: usize, waits: bool, several: bool, counts: &mut Counts) -> Told {
+fn all(
+    rt: &(impl Env + Files + Input + Print + Eprint),
+    count: usize,
+    waits: bool,
+    several: bool,
+    counts: &mut Counts,
+) -> io::Result<Told> {
     let mut told = start();
-    let mut i: usize = 1;
-    while i < count {
-        told = named(told, waits, several, i, counts);
-        i += 1;
+    for i in 1..count {
+        told = named(rt, told, waits, several, i, counts)?;
     }
-    told
+    Ok(told)
 }
 
 // The last line.
-fn say_end(told: Told, counts: &Counts) {
-    say::say(say::END, counts[session::CAPTURES], 0);
+fn say_end(rt: &impl Print, told: Told, counts: &Counts) -> io::Result<()> {
+    say::say(rt, say::END, counts[session::CAPTURES], 0)?;
     say::say(
+        rt,
         say::END + 1,
         counts[session::ALL_SECTIONS],
         counts[session::ALL_REBUILT],
-    );
+    )?;
     let results = told.results;
     if is_every(results) {
-        say::say(say::RESULTS + 1, 0, 0);
+        say::say(rt, say::RESULTS + 1, 0, 0)?;
     } else {
-        say::say(say::RESULTS, 0, 0);
+        say::say(rt, say::RESULTS, 0, 0)?;
     }
-    say::end_line();
+    say::end_line(rt)
 }
 
-fn say_help() {
+fn say_help(rt: &impl Print) -> io::Result<()> {
     say::print(
+        rt,
         b"bench [--as-recorded] [CAPTURE | -]..\n\
         Rebuilds the records of captures (docs/CAPTURE.md). - is standard input, and so is no capture at all.\n\
         Before a segment that comes past the deadline the program makes the advance at the deadline, as a bench does;\n\
         --as-recorded leaves that out, so that only the calls of the capture are made.\n\
         The last line starts with 'end: ' and ends in '; every record rebuilt' or '; not every record rebuilt'.\n",
-    );
+    )
 }
 
-fn say_error(text: &[u8]) {
-    io::write_all(STDERR_FILENO, text);
+fn say_error(rt: &impl Eprint, text: &str) -> io::Result<()> {
+    rt.eprint(text)
 }
 
 // An argument that is wrong: nothing is run.
-fn say_wrong(kind: u8) {
+fn say_wrong(rt: &impl Eprint, kind: u8) -> io::Result<()> {
     match kind {
-        EMPTY => say_error(b"bench: an empty argument names no capture; see --help\n"),
-        TOO_LONG => say_error(b"bench: an argument is too long for a path; see --help\n"),
-        _ => say_error(b"bench: there is no such option; see --help\n"),
+        EMPTY => say_error(
+            rt,
+            "bench: an empty argument names no capture; see --help\n",
+        ),
+        TOO_LONG => say_error(
+            rt,
+            "bench: an argument is too long for a path; see --help\n",
+        ),
+        _ => say_error(rt, "bench: there is no such option; see --help\n"),
     }
 }
 
-fn run_all(count: usize, options: Options) {
+fn run_all(
+    rt: &(impl Env + Files + Input + Print + Eprint),
+    count: usize,
+    options: Options,
+) -> io::Result<()> {
     let mut counts = [0u64; session::COUNTS];
     if options.captures == 0 {
-        let told = from_stdin(start(), options.waits, &mut counts);
-        say_end(told, &counts);
-        return;
+        let told = from_stdin(rt, start(), options.waits, &mut counts)?;
+        return say_end(rt, told, &counts);
     }
-    let told = all(count, options.waits, 1 < options.captures, &mut counts);
-    say_end(told, &counts);
+    let told = all(rt, count, options.waits, 1 < options.captures, &mut counts)?;
+    say_end(rt, told, &counts)
 }
 
-fn main() {
-    let count = os::arg_count();
-    let options = asked(count);
+fn main(rt: HostRuntime) -> io::Result<()> {
+    let count = argument_count(&rt);
+    let options = asked(&rt, count);
     if options.help {
-        say_help();
-        return;
+        return say_help(&rt);
     }
     if options.wrong != FILE {
-        say_wrong(options.wrong);
-        return;
+        return say_wrong(&rt, options.wrong);
     }
-    run_all(count, options);
+    run_all(&rt, count, options)
 }

@@ -24,6 +24,7 @@ use report::marks::{MARKS_OCTETS, top};
 use report::outcome::{Event, call_event};
 use report::reason::reason_of;
 use report::{layout, say};
+use std::io;
 use tsar::HEADER_OCTETS;
 
 // What is kept behind RECEIVER: the marks that were last held; the reading of the last segment that was taken, behind a flag; why the
@@ -91,12 +92,12 @@ fn less(a: u64, b: u64) -> u64 {
 }
 
 // A line that is refused, and the form that says why.
-pub fn refuse(why: usize, a: u64, counts: &mut Counts) -> Event {
-    say::say(say::LINE_REFUSED, counts[LINES], 0);
-    say::say(why, a, 0);
-    say::end_line();
+pub fn refuse(rt: &impl Print, why: usize, a: u64, counts: &mut Counts) -> io::Result<Event> {
+    say::say(rt, say::LINE_REFUSED, counts[LINES], 0)?;
+    say::say(rt, why, a, 0)?;
+    say::end_line(rt)?;
     counts[LINES_REFUSED] = more(counts[LINES_REFUSED]);
-    Event::BadLine
+    Ok(Event::BadLine)
 }
 
 fn count_call(code: u32, counts: &mut Counts) {
@@ -118,11 +119,17 @@ fn keep_held(memory: &mut Memory) {
 }
 
 // Ends the line of a call, and keeps what is to be kept.
-fn called(code: u32, answer: &Answer, counts: &mut Counts, memory: &mut Memory) -> Event {
-    say::end_line();
+fn called(
+    rt: &impl Print,
+    code: u32,
+    answer: &Answer,
+    counts: &mut Counts,
+    memory: &mut Memory,
+) -> io::Result<Event> {
+    say::end_line(rt)?;
     count_call(code, counts);
     keep_held(memory);
-    call_event(answer, memory)
+    Ok(call_event(answer, memory))
 }
 
 // ---- the receiver line
@@ -155,67 +162,94 @@ fn name(h: Header, memory: &mut Memory) {
     memory[NAMED] = 1;
 }
 
-fn say_made(code: u32) {
+fn say_made(rt: &impl Print, code: u32) -> io::Result<()> {
     if code != 0 {
-        say_refused(code);
-        return;
+        return say_refused(rt, code);
     }
-    say::say(say::MADE, 0, 0);
+    say::say(rt, say::MADE, 0, 0)
 }
 
-pub fn open(h: Header, counts: &mut Counts, memory: &mut Memory) -> Event {
+pub fn open(
+    rt: &impl Print,
+    h: Header,
+    counts: &mut Counts,
+    memory: &mut Memory,
+) -> io::Result<Event> {
     let code = make(h, memory);
     name(h, memory);
-    say::say(say::CALL, counts[LINES], h.at);
-    say::say(say::COLON, 0, 0);
-    say::say(say::RECEIVER, 0, 0);
-    say_names(memory);
-    say::say(say::TERMS, h.version as u64, h.profile as u64);
-    say::say(say::TERMS + 1, h.maximum, 0);
-    say_made(code);
+    say::say(rt, say::CALL, counts[LINES], h.at)?;
+    say::say(rt, say::COLON, 0, 0)?;
+    say::say(rt, say::RECEIVER, 0, 0)?;
+    say_names(rt, memory)?;
+    say::say(rt, say::TERMS, h.version as u64, h.profile as u64)?;
+    say::say(rt, say::TERMS + 1, h.maximum, 0)?;
+    say_made(rt, code)?;
     let answer = [0u8; layout::RECEPTION_OCTETS];
-    called(code, &answer, counts, memory)
+    called(rt, code, &answer, counts, memory)
 }
 
 // ---- advance and cancel
 
-fn advanced(reading: u64, counts: &mut Counts, memory: &mut Memory, store: &mut Store) -> Event {
+fn advanced(
+    rt: &impl Print,
+    reading: u64,
+    counts: &mut Counts,
+    memory: &mut Memory,
+    store: &mut Store,
+) -> io::Result<Event> {
     let before = memory[layout::STATE];
     let mut answer = [0u8; layout::RECEPTION_OCTETS];
     let code = catkhize_receiver_advance(memory, store, reading, &mut answer);
-    say_answer(code, &answer, before, memory);
-    called(code, &answer, counts, memory)
+    say_answer(rt, code, &answer, before, memory)?;
+    called(rt, code, &answer, counts, memory)
 }
 
-pub fn advance(reading: u64, counts: &mut Counts, memory: &mut Memory, store: &mut Store) -> Event {
+pub fn advance(
+    rt: &impl Print,
+    reading: u64,
+    counts: &mut Counts,
+    memory: &mut Memory,
+    store: &mut Store,
+) -> io::Result<Event> {
     if memory[0] == 0 {
-        return refuse(say::MISPLACED, 0, counts);
+        return refuse(rt, say::MISPLACED, 0, counts);
     }
-    say::say(say::CALL, counts[LINES], reading);
-    say::say(say::COLON, 0, 0);
-    say::say(say::ADVANCE, 0, 0);
-    advanced(reading, counts, memory, store)
+    say::say(rt, say::CALL, counts[LINES], reading)?;
+    say::say(rt, say::COLON, 0, 0)?;
+    say::say(rt, say::ADVANCE, 0, 0)?;
+    advanced(rt, reading, counts, memory, store)
 }
 
-pub fn cancel(reading: u64, counts: &mut Counts, memory: &mut Memory, store: &mut Store) -> Event {
+pub fn cancel(
+    rt: &impl Print,
+    reading: u64,
+    counts: &mut Counts,
+    memory: &mut Memory,
+    store: &mut Store,
+) -> io::Result<Event> {
     if memory[0] == 0 {
-        return refuse(say::MISPLACED, 0, counts);
+        return refuse(rt, say::MISPLACED, 0, counts);
     }
-    say::say(say::CALL, counts[LINES], reading);
-    say::say(say::COLON, 0, 0);
-    say::say(say::CANCEL, 0, 0);
+    say::say(rt, say::CALL, counts[LINES], reading)?;
+    say::say(rt, say::COLON, 0, 0)?;
+    say::say(rt, say::CANCEL, 0, 0)?;
     let before = memory[layout::STATE];
     let answer = [0u8; layout::RECEPTION_OCTETS];
     let code = catkhize_receiver_cancel(memory, store, reading);
-    say_answer(code, &answer, before, memory);
-    called(code, &answer, counts, memory)
+    say_answer(rt, code, &answer, before, memory)?;
+    called(rt, code, &answer, counts, memory)
 }
 
 // The advance at the deadline that a bench makes before a segment that comes past it.
-pub fn wait(counts: &mut Counts, memory: &mut Memory, store: &mut Store) -> Event {
+pub fn wait(
+    rt: &impl Print,
+    counts: &mut Counts,
+    memory: &mut Memory,
+    store: &mut Store,
+) -> io::Result<Event> {
     let deadline = number_at(memory, layout::DEADLINE + 1);
-    say::say(say::BENCH, deadline, counts[LINES]);
-    advanced(deadline, counts, memory, store)
+    say::say(rt, say::BENCH, deadline, counts[LINES])?;
+    advanced(rt, deadline, counts, memory, store)
 }
 
 // ---- between sections
@@ -287,16 +321,15 @@ fn receive(
 }
 
 // The time since the last segment that was taken.
-fn say_since(reading: u64, memory: &Memory) {
+fn say_since(rt: &impl Print, reading: u64, memory: &Memory) -> io::Result<()> {
     if memory[LAST_AT] == 0 {
-        return;
+        return Ok(());
     }
     let last = number_at(memory, LAST_AT + 1);
     if reading < last {
-        say::say(say::SINCE + 1, less(last, reading), 0);
-        return;
+        return say::say(rt, say::SINCE + 1, less(last, reading), 0);
     }
-    say::say(say::SINCE, less(reading, last), 0);
+    say::say(rt, say::SINCE, less(reading, last), 0)
 }
 
 // Keeps the reading of a segment that was taken.
@@ -324,18 +357,20 @@ fn keep_reason(code: u32, line: u64, before: &Before, decoded: &Decoded, memory:
 
 // What a receive gave and answered.
 fn say_received(
+    rt: &impl Print,
     code: u32,
     answer: &Answer,
     before: &Before,
     decoded: &Decoded,
     memory: &Memory,
     segment: &[u8],
-) {
-    say_reception(code, answer, before, decoded, memory, segment);
+) -> io::Result<()> {
+    say_reception(rt, code, answer, before, decoded, memory, segment)
 }
 
 // A segment that was decoded.
 fn arrived(
+    rt: &impl Print,
     reading: u64,
     decoded: &Decoded,
     segment: &[u8],
@@ -343,46 +378,55 @@ fn arrived(
     memory: &mut Memory,
     store: &mut Store,
     output: &mut Store,
-) -> Event {
-    say_segment(decoded);
+) -> io::Result<Event> {
+    say_segment(rt, decoded)?;
     let mut before = [0u8; layout::RECEIVER_OCTETS];
     octets::put(&mut before, 0, memory);
     let n = number_at(decoded, layout::DATA_LENGTH);
     let data = front(from(segment, HEADER_OCTETS), n as usize);
     let mut answer = [0u8; layout::RECEPTION_OCTETS];
     let code = receive(reading, decoded, data, memory, store, output, &mut answer);
-    say_received(code, &answer, &before, decoded, memory, segment);
+    say_received(rt, code, &answer, &before, decoded, memory, segment)?;
     keep_reading(code, reading, memory);
     keep_reason(code, counts[LINES], &before, decoded, memory);
-    called(code, &answer, counts, memory)
+    called(rt, code, &answer, counts, memory)
 }
 
 // A segment that was not.
-fn not_decoded(code: u32, segment: &[u8], counts: &mut Counts, memory: &mut Memory) -> Event {
-    say::say(say::SEGMENT, segment.len() as u64, 0);
-    say_refused_segment(code, memory[layout::STATE], memory, segment);
+fn not_decoded(
+    rt: &impl Print,
+    code: u32,
+    segment: &[u8],
+    counts: &mut Counts,
+    memory: &mut Memory,
+) -> io::Result<Event> {
+    say::say(rt, say::SEGMENT, segment.len() as u64, 0)?;
+    say_refused_segment(rt, code, memory[layout::STATE], memory, segment)?;
     let answer = [0u8; layout::RECEPTION_OCTETS];
-    called(code, &answer, counts, memory)
+    called(rt, code, &answer, counts, memory)
 }
 
 pub fn segment(
+    rt: &impl Print,
     reading: u64,
     segment: &[u8],
     counts: &mut Counts,
     memory: &mut Memory,
     store: &mut Store,
     output: &mut Store,
-) -> Event {
+) -> io::Result<Event> {
     if memory[0] == 0 {
-        return refuse(say::MISPLACED, 0, counts);
+        return refuse(rt, say::MISPLACED, 0, counts);
     }
-    say::say(say::CALL, counts[LINES], reading);
-    say_since(reading, memory);
-    say::say(say::COLON, 0, 0);
+    say::say(rt, say::CALL, counts[LINES], reading)?;
+    say_since(rt, reading, memory)?;
+    say::say(rt, say::COLON, 0, 0)?;
     let mut decoded = [0u8; layout::DECODED_OCTETS];
     let code = catkhize_decode(segment, memory[layout::VERSION], &mut decoded);
     if code != 0 {
-        return not_decoded(code, segment, counts, memory);
+        return not_decoded(rt, code, segment, counts, memory);
     }
-    arrived(reading, &decoded, segment, counts, memory, store, output)
+    arrived(
+        rt, reading, &decoded, segment, counts, memory, store, output,
+    )
 }

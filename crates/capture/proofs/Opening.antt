@@ -1,6 +1,6 @@
 -- A line that opens a section is read as a receiver line, good or bad; and every line that makes a receiver opens a section. Assumes nothing.
 use Prim.Native.Nat.{ℕ}
-use mathlib.Core.Path.{◌≡◌, refl, sym, ap, ◌∙◌}
+use mathlib.Core.Path.{◌≡◌, refl, ap}
 use mathlib.Core.Bool.{Bool, true, false, cond}
 use mathlib.Core.List.{List}
 use native.Mathlib.Omega.{arith}
@@ -16,13 +16,12 @@ use Rattle.capture.specs.declared.form.Sentence.TheVariants as sentence
 use Rattle.capture.specs.declared.form.Verdict.{Verdict}
 use Rattle.capture.specs.declared.form.Verdict.TheVariants as verdict
 use Rattle.capture.specs.declared.line.Header.{Header}
-use Rattle.capture.specs.declared.line.Line.{Line}
 use Rattle.capture.specs.declared.line.Line.TheVariants as line
 use Rattle.capture.specs.Text.{text, word, word_end, after}
 use Rattle.capture.specs.Decimal.{number_of}
 use Rattle.capture.specs.Hexadecimal.{spelled_of}
 use Rattle.capture.specs.Forms.{is, spelling, forms, words_check}
-use Rattle.capture.specs.Lines.{Reading, read, value_at, unless, with_octets, with_reading, receiver_line, advance_line, cancel_line, octets_after, segment_line, text_line, line_of, opening}
+use Rattle.capture.specs.Lines.{read, value_at, unless, with_octets, with_reading, receiver_line, advance_line, cancel_line, octets_after, segment_line, text_line, line_of, opening}
 
 -- a line that opens a section says what its words say as a receiver line, and writes nothing
 pub opening_line : (l out : List ℕ) → opening l ≡ true → line_of l out ≡ read (receiver_line (text l)) out

@@ -1,5 +1,5 @@
 -- Numbers in decimal digits (docs/CAPTURE.md, 'Numbers').
-use Rattle.std.specs.Prelude.{ℕ, zero, suc, ◌+◌, ◌*◌, ◌-◌, Bool, true, false, cond, ◌&&◌, List, [], ◌∷◌, eqb, ltb, length}
+use Rattle.std.specs.Prelude.{ℕ, ◌+◌, ◌*◌, ◌-◌, cond, List, [], ◌∷◌, eqb, ltb, length}
 use Rattle.capture.specs.declared.text.Class.TheVariants as class
 use Rattle.capture.specs.declared.number.Number.{Number}
 use Rattle.capture.specs.declared.number.Number.TheVariants as number

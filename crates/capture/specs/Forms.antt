@@ -1,5 +1,5 @@
 -- The lines of words (docs/CAPTURE.md, 'Lines'): what stands at each place, and the first word that is wrong.
-use Rattle.std.specs.Prelude.{ℕ, zero, suc, Bool, true, false, cond, ◌||◌, List, [], ◌∷◌, eqb, ltb, length, get_or}
+use Rattle.std.specs.Prelude.{ℕ, suc, Bool, true, false, cond, ◌||◌, List, [], ◌∷◌, eqb, ltb, length, get_or}
 use Rattle.octets.specs.Octets.{same_octets}
 use Rattle.capture.specs.declared.number.Number.{Number}
 use Rattle.capture.specs.declared.number.Number.TheVariants as number

@@ -1,6 +1,6 @@
 -- Octets in hexadecimal (docs/CAPTURE.md, 'Octets'): what each character does, from left to right. Grammar says which texts spell which
 -- octets.
-use Rattle.std.specs.Prelude.{ℕ, zero, suc, ◌+◌, ◌*◌, ◌-◌, Bool, true, false, cond, ◌&&◌, ◌||◌, List, [], ◌∷◌, eqb, leb, length, get_or}
+use Rattle.std.specs.Prelude.{ℕ, suc, ◌+◌, ◌*◌, ◌-◌, Bool, cond, ◌&&◌, ◌||◌, List, [], ◌∷◌, eqb, leb, length, get_or}
 use Rattle.capture.specs.declared.octet.High.{High}
 use Rattle.capture.specs.declared.octet.High.TheVariants as high
 use Rattle.capture.specs.declared.octet.OctetFault.TheVariants as fault

@@ -1,6 +1,6 @@
 -- Laws of reading hexadecimal: what the character at a place does, by what step it is.
-use Rattle.std.specs.Prelude.{ℕ, zero, suc, ◌≤◌, ◌<◌, ◌≡◌, refl, Bool, true, false, cond, List, [], ◌∷◌, leb, length, get_or, drop}
-use Rattle.std.proofs.Common.{sym, ◌∙◌, le-leb, drop_of_length-le, drop-cons}
+use Rattle.std.specs.Prelude.{ℕ, suc, ◌≤◌, ◌<◌, ◌≡◌, List, [], ◌∷◌, length, get_or, drop}
+use Rattle.std.proofs.Common.{◌∙◌, le-leb, drop_of_length-le, drop-cons}
 use Rattle.std.proofs.Math.Path.{ap}
 use Rattle.std.proofs.lemmas.Bool.{lt-leb}
 use Rattle.capture.specs.declared.octet.High.{High}

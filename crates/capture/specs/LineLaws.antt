@@ -1,5 +1,5 @@
 -- Laws of what a text says: a text whose first word is none of the three is a segment.
-use Rattle.std.specs.Prelude.{◌≡◌, refl, Bool, true, false, cond, List, ℕ, eqb, length}
+use Rattle.std.specs.Prelude.{◌≡◌, false, List, ℕ, eqb, length}
 use Rattle.capture.specs.declared.form.Keyword.TheVariants as keyword
 use Rattle.capture.specs.Text.{word}
 use Rattle.capture.specs.Forms.{is}

@@ -1,5 +1,5 @@
 -- What a line of a capture says (docs/CAPTURE.md, 'Lines'), with the octets of a segment at the start of a lent list.
-use Rattle.std.specs.Prelude.{ℕ, ◌+◌, Bool, true, false, cond, List, [], ◌∷◌, eqb, length}
+use Rattle.std.specs.Prelude.{ℕ, ◌+◌, Bool, cond, List, eqb, length}
 use Rattle.std.proofs.lemmas.List.Edits.{sets}
 use Rattle.link.specs.declared.MobileIdentity.{MobileIdentity}
 use Rattle.link.specs.declared.HigherLayerProtocol.{HigherLayerProtocol}

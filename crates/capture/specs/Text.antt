@@ -1,5 +1,5 @@
 -- The characters and the words of a line (docs/CAPTURE.md, 'Lines'). A line is the list of its octets.
-use Rattle.std.specs.Prelude.{ℕ, zero, suc, ◌+◌, Bool, true, false, cond, not, ◌&&◌, ◌||◌, List, [], ◌∷◌, eqb, leb, length, take, drop}
+use Rattle.std.specs.Prelude.{ℕ, zero, suc, ◌+◌, Bool, cond, not, ◌&&◌, ◌||◌, List, [], ◌∷◌, eqb, leb, take, drop}
 use Rattle.octets.specs.Octets.{same_octets}
 use Rattle.capture.specs.declared.text.Class.{Class}
 use Rattle.capture.specs.declared.text.Class.TheVariants as class

@@ -22,7 +22,7 @@ pub const PROFILE_WORDS: usize = 2;
 
 const TIMED_WORDS: usize = 2;
 
-#[derive(Drop)]
+#[derive(Clone, Copy)]
 pub enum Keyword {
     Receiver,
     Peer,
@@ -40,7 +40,7 @@ pub enum Keyword {
 }
 
 // What may stand at a place: a word, a number up to 255, a number of 64 bits, the name of a protocol, an octet.
-#[derive(Drop)]
+#[derive(Clone, Copy)]
 pub enum Form {
     Word(Keyword),
     Small,
@@ -50,7 +50,7 @@ pub enum Form {
 }
 
 // The lines of words; a receiver line has two, without a profile and with one.
-#[derive(Drop)]
+#[derive(Clone, Copy)]
 pub enum Sentence {
     Receiver,
     ReceiverProfile,
@@ -60,7 +60,7 @@ pub enum Sentence {
 
 // What is wrong with a word: there is none; it has not the form that stands there; it is a number, and too large; it is one too many; no
 // line starts so.
-#[derive(Drop)]
+#[derive(Clone, Copy)]
 pub enum WordFault {
     Missing(Form),
     Wrong(Form),
@@ -70,14 +70,14 @@ pub enum WordFault {
 }
 
 // What a word is against a form.
-#[derive(Drop)]
+#[derive(Clone, Copy)]
 pub enum Checked {
     Passed,
     Fault(WordFault),
 }
 
 // What the words of a line are: right, or the first that is wrong, counted from 0.
-#[derive(Drop)]
+#[derive(Clone, Copy)]
 pub enum Verdict {
     Good,
     Bad(WordFault, usize),

@@ -15,7 +15,7 @@ use link::{HigherLayerProtocol, MobileIdentity};
 const UNSAID_PROFILE: u8 = 1;
 
 // What a receiver is made with.
-#[derive(Drop)]
+#[derive(Clone, Copy)]
 pub struct Header {
     pub peer: MobileIdentity,
     pub protocol: HigherLayerProtocol,
@@ -28,7 +28,7 @@ pub struct Header {
 
 // A line: nothing; a receiver; an advance or a cancel at a reading; a segment at a reading, with the number of its octets; a word that is
 // wrong, counted from 0; or octets that are wrong, with the character of the line, counted from 0.
-#[derive(Drop)]
+#[derive(Clone, Copy)]
 pub enum Line {
     Nothing,
     Receiver(Header),

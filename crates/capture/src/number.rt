@@ -11,7 +11,7 @@ const BASE: u64 = 10;
 const MAX_SMALL: u64 = 255;
 
 // What a word is as a number of 64 bits.
-#[derive(Drop)]
+#[derive(Clone, Copy)]
 pub enum Number {
     Value(u64),
     TooLarge,

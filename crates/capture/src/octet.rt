@@ -6,14 +6,14 @@ ghost use Rattle.capture.specs.Hexadecimal.{is_hex, hex_value, end_of, step_of, 
 use crate::text::{is_blank, less, within};
 
 // The first digit of an octet, once it has come.
-#[derive(Drop)]
+#[derive(Clone, Copy)]
 pub enum High {
     Unread,
     Read(u8),
 }
 
 // What is wrong with octets: a character that is no digit, an octet of one digit, more octets than there is room for.
-#[derive(Drop)]
+#[derive(Clone, Copy)]
 pub enum OctetFault {
     NoDigit,
     Half,
@@ -21,7 +21,7 @@ pub enum OctetFault {
 }
 
 // What a character does.
-#[derive(Drop)]
+#[derive(Clone, Copy)]
 pub enum Step {
     Octet(u8),
     Wait(High),
@@ -29,14 +29,14 @@ pub enum Step {
 }
 
 // The number of octets, or the first fault and the character that it stands at.
-#[derive(Drop)]
+#[derive(Clone, Copy)]
 pub enum Octets {
     Read(usize),
     Fault(OctetFault, usize),
 }
 
 // What a word spells.
-#[derive(Drop)]
+#[derive(Clone, Copy)]
 pub enum Pair {
     Octet(u8),
     NoOctet,

@@ -20,7 +20,7 @@ const NINE: u8 = 57;
 const MARK_OCTETS: usize = 3;
 
 // What a run is made of: the characters of a line, those before a comment, blanks, those of a word, decimal digits.
-#[derive(Drop)]
+#[derive(Clone, Copy)]
 pub enum Class {
     Line,
     Text,

@@ -1,16 +1,11 @@
 -- The proved cases of document 01, 'corners': P1 to P14, by one statement over one list, under version 1.
--- A case holds what goes in and what must come out; `given` puts in its place what the definitions give; `all-cases` says of each case that nothing
+-- A case holds what goes in and what must come out; `given` puts in its place what the definitions give; the theorem (proofs/AllCases) says of each case that nothing
 -- changes: of P10 for every first octet d and any octets behind it, of P11 and P12 for any octets. Each mark has all that its line says up to the next
 -- mark. Assumes nothing.
-use Rattle.std.specs.Prelude.{◌≡◌, refl, List, [], ◌∷◌, map, ℕ, zero, suc, ◌<◌, length, replicate}
-use Rattle.std.proofs.Common.{ap, ◌∙◌}
+use Rattle.std.specs.Prelude.{◌≡◌, List, [], ◌∷◌, ℕ, zero, suc, length, replicate}
 use Rattle.std.proofs.Math.Option.{Option, none, some}
-use Rattle.octets.specs.Octets.{wiped_to, same_octets}
-use Rattle.words.specs.Marks.{marked, sum_below, words_of, all_below, highest_of}
-use Rattle.link.specs.Profile.{known_profile, receiver_interval}
 use Rattle.link.specs.declared.HigherLayerProtocol.TheVariants.{Segmented}
 use Rattle.tsar.specs.declared.Compression.TheVariants as compression
-use Rattle.tsar.specs.declared.AcknowledgmentWindow.{AcknowledgmentWindow}
 use Rattle.tsar.specs.declared.AcknowledgmentWindow.TheVariants as window
 use Rattle.tsar.specs.declared.CrcStatus.TheVariants as status
 use Rattle.tsar.specs.declared.OptionalServices.{OptionalServices}
@@ -21,19 +16,17 @@ use Rattle.tsar.specs.declared.SegmentKind.{SegmentKind}
 use Rattle.tsar.specs.declared.SegmentKind.TheVariants as kind'
 use Rattle.tsar.specs.declared.Segment.{Segment}
 use Rattle.tsar.specs.Rows.{Refusal}
-use Rattle.tsar.specs.Layout.{whole, written, bits_of, bits, octets_of, fields_with}
-use Rattle.tsar.specs.Reading.{Decoded, decoded, refused, segment_of, segment_as, services_of, step_of, run_params, compression_of, window_of, status_of}
+use Rattle.tsar.specs.Layout.{whole, written}
+use Rattle.tsar.specs.Reading.{Decoded, decoded, refused, segment_of}
 use Rattle.tsar.specs.Writing.{Written, wrote, encode_of}
-use Rattle.tsar.proofs.OneOctet.{p10_begin}
-use Rattle.segmentation.specs.Plan.{Planning, unsegmented, refused as plan_refused, segmented, plan_message, plan_of, segment_count, longer, segment_at}
-use Rattle.segmentation.specs.declared.SegmentedMessage.{SegmentedMessage}
+use Rattle.segmentation.specs.Plan.{Planning, unsegmented, refused as plan_refused, segmented, plan_message}
 use Rattle.segmentation.proofs.Even.{length_at}
 use Rattle.response.specs.declared.Status.TheVariants.{Aborted}
 use Rattle.receiver.specs.declared.ReceiverState.{ReceiverState}
 use Rattle.receiver.specs.declared.ReceiverState.TheVariants.{Receiving, Complete, Failed}
 use Rattle.receiver.specs.declared.Receiver.{Receiver}
 use Rattle.receiver.specs.declared.Terms.{Terms}
-use Rattle.receiver.specs.Record.{interval_of, sum_to, empty_slots, empty_lengths, joined, impossible}
+use Rattle.receiver.specs.Record.{interval_of}
 use Rattle.receiver.specs.Answers.{Answer, answered}
 use Rattle.receiver.specs.Receive.{Arrival, receive_of}
 use Rattle.receiver.specs.Advance.{try_new_of}
@@ -53,7 +46,7 @@ pub data Case : Type 0 where
 -- ---- what the definitions give
 
 -- plan_message's plan under Prohibited, transaction 0, version 1 and a ceiling that is the budget
-abbrev planning : List ℕ → ℕ → Planning
+abbrev pub planning : List ℕ → ℕ → Planning
 planning m budget = plan_message (length m) budget 0 window.Prohibited 1 budget
 
 -- f 0 to f (n - 1)
@@ -78,12 +71,12 @@ begin_octets unsegmented m = []
 begin_octets (plan_refused n) m = []
 begin_octets (segmented p) m = written (train_of p m 0)
 
-abbrev count_in : Planning → Option ℕ
+abbrev pub count_in : Planning → Option ℕ
 count_in unsegmented = none
 count_in (plan_refused n) = none
 count_in (segmented p) = some p.count
 
-abbrev refusal_in : Planning → Option Refusal
+abbrev pub refusal_in : Planning → Option Refusal
 refusal_in unsegmented = none
 refusal_in (plan_refused n) = some n
 refusal_in (segmented p) = none
@@ -200,25 +193,9 @@ cases d o₁ o₂ o₃ o₄ o₅ o₆ m n =
 -- ---- the statement
 
 -- the definitions give what a case says
-abbrev Gives : Case → Type 0
+abbrev pub Gives : Case → Type 0
 Gives c = given c ≡ c
 
 abbrev pub All : List Case → Type 0
 All [] = Unit {0}
 All (c ∷ cs) = Gives c × All cs
-
-p10 : (d o₁ o₂ o₃ o₄ o₅ o₆ : ℕ) → d < 256 → Gives (cuts (d ∷ o₁ ∷ o₂ ∷ o₃ ∷ o₄ ∷ o₅ ∷ o₆ ∷ []) 6 (1 ∷ 3 ∷ 3 ∷ []) (1 ∷ 3 ∷ 3 ∷ []) (0x00 ∷ 0x00 ∷ 0x01 ∷ d ∷ 0x10 ∷ 0x07 ∷ []))
-unfolding given plan_message plan_of segment_count longer segment_at up_to
-p10 d o₁ o₂ o₃ o₄ o₅ o₆ h = ap (cuts (d ∷ o₁ ∷ o₂ ∷ o₃ ∷ o₄ ∷ o₅ ∷ o₆ ∷ []) 6 (1 ∷ 3 ∷ 3 ∷ []) (1 ∷ 3 ∷ 3 ∷ [])) (p10_begin d h)
-
--- a plan depends on the message's length alone
-planned_as : (m : List ℕ) (budget k : ℕ) (n : Option ℕ) (r : Option Refusal) → length m ≡ k
-    → count_in (plan_message k budget 0 window.Prohibited 1 budget) ≡ n → refusal_in (plan_message k budget 0 window.Prohibited 1 budget) ≡ r
-    → Gives (makes m budget n r)
-unfolding given
-planned_as m budget k n r e p q = rw (e, p, q)
-
-pub all_cases : (d o₁ o₂ o₃ o₄ o₅ o₆ : ℕ) (m n : List ℕ) → d < 256 → length m ≡ 256 → length n ≡ 257 → All (cases d o₁ o₂ o₃ o₄ o₅ o₆ m n)
-unfolding known_profile receiver_interval cases given segment_of segment_as services_of step_of run_params compression_of window_of status_of encode_of bits_of bits octets_of fields_with plan_message plan_of segment_count longer receive_all try_new_of receive_of impossible all_below sum_to empty_slots empty_lengths joined same_octets wiped_to marked words_of sum_below highest_of
-all_cases d o₁ o₂ o₃ o₄ o₅ o₆ m n h e f =
-    (refl, (refl, (refl, (refl, (refl, (refl, (refl, (refl, (refl, (refl, (refl, (refl, (refl, (refl, (refl, (refl, (refl, (p10 d o₁ o₂ o₃ o₄ o₅ o₆ h, (planned_as m 4 256 (some 256) none e refl refl, (planned_as n 4 257 none (some (22, 0)) f refl refl, (refl, (refl, tt))))))))))))))))))))))

@@ -15,7 +15,7 @@ use Rattle.delivery.specs.Calls.{Call, StepFunction, TryNewFunction, ours, carri
 use Rattle.delivery.specs.Delivery.{Brings, HasCome, AllHaveCome, Meets, DeliveryConditions, HandsOver, HandsOverExactly}
 use Rattle.delivery.specs.Demand.{TrainFor, SecondHalf, SecondHalfAt}
 use Rattle.delivery.specs.Own.{own_interval}
-use Rattle.delivery.specs.Theorem.{given_cutting, demand3}
+use Rattle.delivery.proofs.Theorem.{given_cutting, demand3}
 use Rattle.cases.specs.EveryOrder.{InTime, arrival, bringing, bringing_from, received, Served, EveryOrderServed}
 
 module _ (t : Terms) (segment : ℕ → WholeSegment) (clock : ℕ → ℕ) (out : ℕ → List ℕ) where

@@ -1,4 +1,6 @@
 // The exported codec: encode and decode on numbers and octet slices.
+#![tactic(auto)]
+
 ghost use Rattle.std.specs.Prelude.{◌≡◌};
 ghost use Rattle.std.proofs.lemmas.List.Edits.{sets};
 ghost use Rattle.tsar.specs.Writing.{encode_of};
@@ -39,6 +41,7 @@ fn encode_into(
 }
 
 // Writes the segment that SEGMENT spells, with its data, into output. Answers WRITTEN.
+#[tactic(auto, using(crate::proofs::Refusing::segment_short))]
 pub fn catkhize_encode(
     segment: &[u8],
     data: &[u8],

@@ -33,7 +33,7 @@ use Rattle.delivery.specs.Delivery.{reading}
 use Rattle.delivery.specs.Demand.{SecondHalfAt, step_after}
 use Rattle.delivery.specs.Lists.{never}
 use Rattle.delivery.specs.Rules.{by_rules, by_receive, by_advance, by_cancel, by_release}
-use Rattle.delivery.specs.Theorem.{demand3}
+use Rattle.delivery.proofs.Theorem.{demand3}
 use Rattle.delivery.specs.Waiting.{deadline_of, sets_deadline, fires_at, Sets, Fires, Waits}
 use Rattle.delivery.specs.Witness.{terms_of, store₀, bring}
 

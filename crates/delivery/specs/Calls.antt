@@ -36,7 +36,7 @@ step_of interval r store (release n) = release_of r store n
 abbrev pub ours : StepFunction
 ours r store c = step_of (interval_of r) r store c
 
--- what some try_new gives for terms and a reading; tryNewOf is ours
+-- what some try_new gives for terms and a reading; try_new_of is ours
 abbrev pub TryNewFunction : Type 0
 TryNewFunction = Terms → ℕ → Made
 

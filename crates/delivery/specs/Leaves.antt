@@ -4,11 +4,10 @@
 -- segment of n octets changes the first n of its slot (255 octets a slot, in sequence). Output changes only in the octets written.' Document 02,
 -- 2026-07: a release wipes the store too. Over any record, store and output: none need be reached. The other late cases are the sender's.
 use Rattle.std.specs.Prelude.{ℕ, ◌+◌, ◌*◌, ◌≤◌, ◌<◌, ◌≡◌, List, [], ◌⊎◌, true, false, length, get_or}
-use Rattle.std.proofs.Math.Option.{Option, none, some}
+use Rattle.std.proofs.Math.Option.{none, some}
 use Rattle.tsar.specs.Rows.{Refusal}
 use Rattle.tsar.specs.Kinds.{prohibited}
-use Rattle.response.specs.declared.Response.{Response}
-use Rattle.receiver.specs.Record.{complete, late, taking, slot_octets, store_octets, is_held, part, wiped, read}
+use Rattle.receiver.specs.Record.{complete, late, taking, slot_octets, store_octets, is_held, part, read}
 use Rattle.receiver.specs.Answers.{Answer, refused, answered, Step}
 use Rattle.receiver.specs.Receive.{Arrival, sequence}
 use Rattle.receiver.specs.Advance.{advance_of}

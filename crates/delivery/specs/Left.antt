@@ -1,5 +1,5 @@
 -- What a call leaves, proved of our receiver: by the ways in which a call can end (Rules). Assumes nothing.
-use Rattle.std.specs.Prelude.{ℕ, zero, suc, ◌+◌, ◌*◌, ◌≤◌, ◌<◌, ◌≡◌, ◌≢◌, ◌⊎◌, List, [], ◌∷◌, Bool, not, ◌&&◌, ◌||◌, eqb, length, take, drop, set}
+use Rattle.std.specs.Prelude.{ℕ, zero, suc, ◌*◌, ◌≤◌, ◌<◌, ◌≡◌, ◌⊎◌, List, [], ◌∷◌, Bool, not, ◌&&◌, ◌||◌, eqb, length, drop, set}
 use Rattle.std.proofs.Math.Path.{refl, ap}
 use Rattle.std.proofs.Common.{sym, ◌∙◌, subst, inl, inr, ⊎_elim, length-append, length-take, get_or-set_other}
 use Rattle.std.proofs.Math.Bool.{true, false}
@@ -13,13 +13,12 @@ use Rattle.std.proofs.lemmas.List.Edits.{sets}
 use Rattle.std.proofs.Math.Seq.{length-sets}
 use Rattle.octets.specs.Octets.{length_wiped, get_d_wiped, get_d_wiped_past}
 use Rattle.octets.specs.Laws.{get_d_sets_before, get_d_sets_after}
-use Rattle.words.specs.Marks.{marked, all_below}
+use Rattle.words.specs.Marks.{marked}
 use Rattle.words.specs.Search.{all_below_true, lt_or_le}
 use Rattle.words.specs.Laws.{marked_past, marked_none}
 use Rattle.words.specs.declared.Words.{Words}
 use Rattle.tsar.specs.Rows.{Refusal, first_of, refusal, refusal_none, refusal_pass, by_rows, any_none, test}
 use Rattle.tsar.specs.Kinds.{prohibited}
-use Rattle.response.specs.declared.Status.{Status}
 use Rattle.receiver.specs.declared.ReceiverState.{ReceiverState}
 use Rattle.receiver.specs.declared.ReceiverState.TheVariants.{AwaitingBegin, Receiving, Complete, Failed, Expired, Canceled}
 use Rattle.receiver.specs.declared.EndSequence.{EndSequence}
@@ -28,13 +27,13 @@ use Rattle.receiver.specs.declared.Deadline.{Deadline}
 use Rattle.receiver.specs.declared.Deadline.TheVariants as deadline
 use Rattle.receiver.specs.declared.Receiver.{Receiver}
 use Rattle.receiver.specs.Record.{interval_of, taking, awaiting, receiving, running, complete, late, due, slot_octets, store_octets, is_held, held_length, part, wiped, full_with, joined, faults, impossible}
-use Rattle.receiver.specs.Answers.{Answer, refused, answered, Step, refuses, last_entry}
-use Rattle.receiver.specs.Receive.{Arrival, sequence, kind, receive_rows, slot_rules, settle, late_or, receive_after, receive_of, Outcome, fails, repeats, closes, keeps, finishes}
+use Rattle.receiver.specs.Answers.{refused, Step, refuses, last_entry}
+use Rattle.receiver.specs.Receive.{Arrival, sequence, receive_rows, slot_rules, settle, late_or, receive_after, receive_of, Outcome, fails, repeats, closes, keeps, finishes}
 use Rattle.receiver.specs.Advance.{clock_rows, fires, advance_after, advance_of, cancel_of, release_of}
-use Rattle.delivery.specs.Calls.{Call, receive, advance, cancel, release, step_of, ours, FitsTypes}
-use Rattle.delivery.specs.Lists.{never, holding, marked_here, marked_other, part_same}
-use Rattle.delivery.specs.Rules.{Admitted, New, Clocked, end_with, fills, by_rules, by_receive, by_advance, by_cancel, by_release}
-use Rattle.delivery.specs.Leaves.{lent, Unchanged, LateClosed, UnheldClosed, Excepted, RefusedLeaves, TimerDueLeaves, Filled, NewlyHeld, HeldFills, Wiped, ClosedWipes, Fills, StoreLeft, handed, OutputLeft, HandedMost, Leaves}
+use Rattle.delivery.specs.Calls.{Call, receive, advance, cancel, release, step_of, ours}
+use Rattle.delivery.specs.Lists.{never, holding, marked_here, part_same}
+use Rattle.delivery.specs.Rules.{Admitted, New, Clocked, end_with, by_rules, by_receive, by_advance, by_cancel, by_release}
+use Rattle.delivery.specs.Leaves.{Unchanged, LateClosed, UnheldClosed, Excepted, RefusedLeaves, TimerDueLeaves, Filled, NewlyHeld, HeldFills, Wiped, ClosedWipes, Fills, StoreLeft, handed, OutputLeft, HandedMost, Leaves}
 
 -- ---- refusals
 

@@ -1,6 +1,6 @@
 -- Demand 3 (Calls, Delivery, Demand), what a call leaves (Leaves), the occasions on which a store is wiped (Occasions) and how long a receiver waits
--- (Waiting) are statements. The other files are laws and proofs: of demand 3 up to ExceptionsServed, Left of Leaves, Wiping and OccasionsRefuted of
--- Occasions, AfterRelease of what a release gives and leaves; those of Waiting stand in proofs.
+-- (Waiting) are statements. The other files are laws and proofs: of demand 3 up to Refuted, Left of Leaves. The theorems themselves, and the laws of
+-- Occasions and Waiting, stand in proofs/.
 pub mod Calls
 pub mod Delivery
 pub mod Demand
@@ -19,19 +19,15 @@ pub mod Own
 pub mod Train
 pub mod Safety
 pub mod Same
+pub mod Witness
+pub mod Refuted
+pub mod Left
 pub mod Progress
 pub mod ProgressReleased
 pub mod ProgressPasses
-pub mod ProgressRepeat
-pub mod ProgressNew
 pub mod ProgressAll
-pub mod Theorem
-pub mod Witness
-pub mod InOrder
-pub mod Refuted
-pub mod TrainsRefuted
 pub mod ExceptionsServed
-pub mod Left
+pub mod TrainsRefuted
 pub mod Wiping
 pub mod AfterRelease
 pub mod OccasionsRefuted

@@ -189,7 +189,7 @@ module _ (P : Step → Type 0) (r : Receiver) (store : List ℕ) (now' : ℕ) wh
       go (some n) e = f n e
       go none e = g (clocked [] e) (due r.progress.deadline_monotonic_ms now') (prohibited r.progress.services.acknowledgment_window) refl refl
 
-  -- what rows decide by cancelAfter: it is refused, or closed
+  -- what rows decide by cancel_after: it is refused, or closed
   by_closing : (rows : List (Bool × Refusal)) → ((n : Refusal) → refusal rows ≡ some n → P (refuses n r store []))
       → (refusal rows ≡ none → P (cancel_after none r store now'))
       → P (cancel_after (refusal rows) r store now')

@@ -1,1 +1,2 @@
-// Demand 3, one theorem over every list of calls on a receiver and its store: specs/Demand.antt states it, specs/Theorem.antt proves it.
+// Demand 3, one theorem over every list of calls on a receiver and its store: specs/Demand.antt states it, proofs/Theorem.antt proves it.
+#![tactic(auto)]

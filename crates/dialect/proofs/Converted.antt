@@ -25,7 +25,7 @@ use Rattle.segmentation.specs.Joined.{join_cong}
 use Rattle.segmentation.specs.Accepted.{Acceptable, with_heads, frozen_acceptable, cutting_accepted}
 use Rattle.dialect.specs.declared.Dialect.{Dialect}
 use Rattle.dialect.specs.declared.Dialect.TheVariants.{BeginOnly, Every}
-use Rattle.dialect.specs.Convert.{is_stated, states, length_for, with_length, restated, restate_later, restated_heads, converted, passes_budget}
+use Rattle.dialect.specs.Convert.{is_stated, states, length_for, with_length, restated, restate_later, restated_heads, passes_budget}
 
 -- ---- the heads
 

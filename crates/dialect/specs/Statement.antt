@@ -1,4 +1,4 @@
--- Document 02, 2026-06: what is shown of the converter, of the definition that its contract cites, `convert_of`. `convertRefusal` is what it answers
+-- Document 02, 2026-06: what is shown of the converter, of the definition that its contract cites, `convert_of`. `convert_refusal` is what it answers
 -- (Answered).
 use Rattle.std.specs.Prelude.{ℕ, zero, suc, ◌+◌, ◌≤◌, ◌<◌, ◌≡◌, length}
 use Rattle.std.proofs.Math.Option.{none, some}

@@ -1,4 +1,6 @@
 // Two dialects of a frozen plan, and the converter between them: Begin alone states the message's length, or every segment does (2026-06).
+#![tactic(auto)]
+
 ghost use Rattle.std.specs.Prelude.{◌≡◌, ◌+◌, ◌≤◌, ltb};
 ghost use Rattle.std.proofs.Math.Option.{some};
 ghost use Rattle.tsar.specs.Writing.{header_octets};
@@ -11,7 +13,7 @@ use segmentation::{FrozenAnswer, FrozenMessage, PlanningError};
 use tsar::{MessageLength, Segment, SegmentHead, SegmentKind};
 
 // The dialect of a train.
-#[derive(Drop)]
+#[derive(Clone, Copy)]
 pub enum Dialect {
     BeginOnly,
     Every,
@@ -19,20 +21,20 @@ pub enum Dialect {
 
 // Why a train is not converted. Planning is what the frozen check says of the train, and 20 of a converted segment; OtherPattern is 26, which the
 // source has not: the train is not in the dialect being read.
-#[derive(Drop)]
+#[derive(Clone, Copy)]
 pub enum ConvertError {
     Planning(PlanningError),
     OtherPattern,
 }
 
-#[derive(Drop)]
+#[derive(Clone, Copy)]
 pub enum ConvertAnswer {
     Converted,
     Refused(ConvertError),
 }
 
 // What convert gives: the answer, and the plan beside it; refused, a plan of no segments.
-#[derive(Drop)]
+#[derive(Clone, Copy)]
 pub struct Conversion {
     pub answer: ConvertAnswer,
     pub plan: FrozenMessage,

@@ -1,5 +1,6 @@
 // How far a comparison of lent octets looks, as a table: document 02, 2026-03.
 use octets::{compare, put};
+use std::io;
 use tally::{say, say_number};
 
 // The most octets that a segment's data has.
@@ -17,52 +18,52 @@ fn octets_with(place: usize) -> [u8; OCTETS] {
 }
 
 // A line: n octets against m that are others from a place on, whether they were found the same, and how many were looked at.
-fn line(n: usize, m: usize, place: usize) {
+fn line(rt: &impl Print, n: usize, m: usize, place: usize) -> io::Result<()> {
     if OCTETS < n {
-        return;
+        return Ok(());
     }
     if OCTETS < m {
-        return;
+        return Ok(());
     }
-    say(b"  ");
-    say_number(n as u64);
-    say(b" and ");
-    say_number(m as u64);
+    say(rt, b"  ")?;
+    say_number(rt, n as u64)?;
+    say(rt, b" and ")?;
+    say_number(rt, m as u64)?;
     if place < OCTETS {
-        say(b", others from ");
-        say_number(place as u64);
-        say(b" on");
+        say(rt, b", others from ")?;
+        say_number(rt, place as u64)?;
+        say(rt, b" on")?;
     }
     let left = octets_with(NOWHERE);
     let right = octets_with(place);
     let found = compare(&left[0..n], &right[0..m]);
     if found.same {
-        say(b": the same, looked at ");
+        say(rt, b": the same, looked at ")?;
     } else {
-        say(b": not the same, looked at ");
+        say(rt, b": not the same, looked at ")?;
     }
-    say_number(found.looked as u64);
-    say(b"\n");
+    say_number(rt, found.looked as u64)?;
+    say(rt, b"\n")
 }
 
-pub fn table() {
-    say(b"comparisons, and how many octets were looked at\n");
-    line(0, 0, NOWHERE);
-    line(1, 1, NOWHERE);
-    line(1, 1, 0);
-    line(254, 254, NOWHERE);
-    line(254, 254, 253);
-    line(255, 255, NOWHERE);
-    line(255, 255, 0);
-    line(255, 255, 1);
-    line(255, 255, 100);
-    line(255, 255, 254);
-    line(254, 255, NOWHERE);
-    line(255, 254, NOWHERE);
-    line(254, 255, 0);
-    line(255, 254, 0);
-    line(0, 1, NOWHERE);
-    line(1, 0, NOWHERE);
-    line(0, 255, NOWHERE);
-    line(255, 0, NOWHERE);
+pub fn table(rt: &impl Print) -> io::Result<()> {
+    say(rt, b"comparisons, and how many octets were looked at\n")?;
+    line(rt, 0, 0, NOWHERE)?;
+    line(rt, 1, 1, NOWHERE)?;
+    line(rt, 1, 1, 0)?;
+    line(rt, 254, 254, NOWHERE)?;
+    line(rt, 254, 254, 253)?;
+    line(rt, 255, 255, NOWHERE)?;
+    line(rt, 255, 255, 0)?;
+    line(rt, 255, 255, 1)?;
+    line(rt, 255, 255, 100)?;
+    line(rt, 255, 255, 254)?;
+    line(rt, 254, 255, NOWHERE)?;
+    line(rt, 255, 254, NOWHERE)?;
+    line(rt, 254, 255, 0)?;
+    line(rt, 255, 254, 0)?;
+    line(rt, 0, 1, NOWHERE)?;
+    line(rt, 1, 0, NOWHERE)?;
+    line(rt, 0, 255, NOWHERE)?;
+    line(rt, 255, 0, NOWHERE)
 }

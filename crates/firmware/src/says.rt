@@ -1,91 +1,92 @@
 // What is printed of an answer. No contract can say what is printed; each call is safe and ends.
 use receiver::{AdvanceAnswer, CancelAnswer, Message, ReceiveAnswer, ReceiveError, Reply};
 use response::status_number;
+use std::io;
 use tally::{say, say_number};
 
 // Document 01's number of a refusal; of the codec's, only that it is the codec's.
-fn refusal(e: ReceiveError) {
-    say(b"refused with ");
+fn refusal(rt: &impl Print, e: ReceiveError) -> io::Result<()> {
+    say(rt, b"refused with ")?;
     match e {
-        ReceiveError::Identity => say_number(30),
-        ReceiveError::Service => say_number(31),
-        ReceiveError::TransactionId => say_number(32),
-        ReceiveError::Codec(_) => say(b"a number of the codec"),
-        ReceiveError::ClockRegression => say_number(33),
-        ReceiveError::TimeOverflow => say_number(34),
-        ReceiveError::UnparsedSegment => say_number(35),
-        ReceiveError::BeginRequired => say_number(36),
-        ReceiveError::TimerDue => say_number(37),
-        ReceiveError::Closed => say_number(38),
-        ReceiveError::Store => say_number(60),
-        ReceiveError::Output => say_number(61),
-        ReceiveError::ImpossibleState => say_number(62),
-        ReceiveError::Profile => say_number(64),
+        ReceiveError::Identity => say_number(rt, 30),
+        ReceiveError::Service => say_number(rt, 31),
+        ReceiveError::TransactionId => say_number(rt, 32),
+        ReceiveError::Codec(_) => say(rt, b"a number of the codec"),
+        ReceiveError::ClockRegression => say_number(rt, 33),
+        ReceiveError::TimeOverflow => say_number(rt, 34),
+        ReceiveError::UnparsedSegment => say_number(rt, 35),
+        ReceiveError::BeginRequired => say_number(rt, 36),
+        ReceiveError::TimerDue => say_number(rt, 37),
+        ReceiveError::Closed => say_number(rt, 38),
+        ReceiveError::Store => say_number(rt, 60),
+        ReceiveError::Output => say_number(rt, 61),
+        ReceiveError::ImpossibleState => say_number(rt, 62),
+        ReceiveError::Profile => say_number(rt, 64),
     }
 }
 
-fn reply(x: Reply) {
+fn reply(rt: &impl Print, x: Reply) -> io::Result<()> {
     match x {
-        Reply::Nothing => say(b"no response"),
+        Reply::Nothing => say(rt, b"no response"),
         Reply::Response(reported) => {
             let response = reported.response;
             let status = response.status;
             let map = response.acknowledgments;
             let missing = reported.missing;
-            say(b"response of status ");
-            say_number(status_number(status) as u64);
-            say(b", map of ");
-            say_number(map.bit_count as u64);
-            say(b", missing ");
-            say_number(missing.count as u64);
-            say(b", first ");
-            say_number(missing.first as u64);
+            say(rt, b"response of status ")?;
+            say_number(rt, status_number(status) as u64)?;
+            say(rt, b", map of ")?;
+            say_number(rt, map.bit_count as u64)?;
+            say(rt, b", missing ")?;
+            say_number(rt, missing.count as u64)?;
+            say(rt, b", first ")?;
+            say_number(rt, missing.first as u64)
         }
     }
 }
 
-pub fn received(answer: ReceiveAnswer) {
+pub fn received(rt: &impl Print, answer: ReceiveAnswer) -> io::Result<()> {
     match answer {
-        ReceiveAnswer::Refused(e) => refusal(e),
+        ReceiveAnswer::Refused(e) => refusal(rt, e)?,
         ReceiveAnswer::Received(reception) => {
             let response = reception.response;
             let message = reception.message;
-            reply(response);
+            reply(rt, response)?;
             match message {
-                Message::Nothing => say(b""),
+                Message::Nothing => say(rt, b"")?,
                 Message::Octets(n) => {
-                    say(b", message of ");
-                    say_number(n as u64);
-                    say(b" octets");
+                    say(rt, b", message of ")?;
+                    say_number(rt, n as u64)?;
+                    say(rt, b" octets")?;
                 }
             }
         }
     }
-    say(b"\n");
+    say(rt, b"\n")
 }
 
-pub fn advanced(answer: AdvanceAnswer) {
+pub fn advanced(rt: &impl Print, answer: AdvanceAnswer) -> io::Result<()> {
     match answer {
-        AdvanceAnswer::Refused(e) => refusal(e),
-        AdvanceAnswer::Advanced(response) => reply(response),
+        AdvanceAnswer::Refused(e) => refusal(rt, e)?,
+        AdvanceAnswer::Advanced(response) => reply(rt, response)?,
     }
-    say(b"\n");
+    say(rt, b"\n")
 }
 
-pub fn canceled(answer: CancelAnswer) {
+pub fn canceled(rt: &impl Print, answer: CancelAnswer) -> io::Result<()> {
     match answer {
-        CancelAnswer::Refused(e) => refusal(e),
-        CancelAnswer::Canceled => say(b"canceled"),
+        CancelAnswer::Refused(e) => refusal(rt, e)?,
+        CancelAnswer::Canceled => say(rt, b"canceled")?,
     }
-    say(b"\n");
+    say(rt, b"\n")
 }
 
 // A line that says whether something holds.
-pub fn holds(what: &[u8], yes: bool) {
-    say(what);
+pub fn holds(rt: &impl Print, what: &[u8], yes: bool) -> io::Result<()> {
+    say(rt, what)?;
     if yes {
-        say(b": yes\n");
+        say(rt, b": yes\n")
     } else {
-        say(b": NO\n");
+        say(rt, b": NO\n")
     }
 }

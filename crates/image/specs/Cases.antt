@@ -1,6 +1,6 @@
 -- The cases that numbers name: each case of an enum has a number (ABI), and a number is read by a table. A number past the table reads as
 -- the first case, which the strict test of an image then refuses. Assumes nothing.
-use Rattle.std.specs.Prelude.{◌≡◌, refl, Bool, true, false, cond, List, [], ◌∷◌, ℕ, eqb, get_or}
+use Rattle.std.specs.Prelude.{◌≡◌, refl, Bool, true, false, List, [], ◌∷◌, ℕ, eqb, get_or}
 use Rattle.tsar.specs.Layout.{compression_number, window_number, status_number as crc_status_number}
 use Rattle.tsar.specs.declared.Compression.{Compression}
 use Rattle.tsar.specs.declared.Compression.TheVariants as compression

@@ -1,17 +1,17 @@
 -- Values of one type, each spelled by w octets, one behind another: how they are spelled and read, the strict test of each, and the turns
 -- of the loops that do so. Assumes nothing.
-use Rattle.std.specs.Prelude.{◌≡◌, Bool, true, false, ◌&&◌, get_or, set}
+use Rattle.std.specs.Prelude.{◌≡◌, Bool, true, ◌&&◌, get_or, set}
 use Rattle.std.proofs.Math.Path.{refl, ap, ap₂}
-use Rattle.std.proofs.Common.{sym, ◌∙◌, add-one, length-take-le, take_all, take-suc-set, get_or-take, drop-drop, take-add}
+use Rattle.std.proofs.Common.{sym, ◌∙◌, add-one, length-take-le, take_all, take-suc-set, get_or-take, drop-drop}
 use mathlib.Core.List.{List, [], ◌∷◌, ◌++◌, append-nil, append_assoc}
-use Prim.Native.Nat.{ℕ, zero, suc, ◌+◌, ◌-◌, ◌*◌, ◌≤◌, ◌<◌}
+use Prim.Native.Nat.{ℕ, zero, suc, ◌+◌, ◌*◌, ◌≤◌, ◌<◌}
 use Rattle.std.proofs.Math.Nat.{mul-suc}
 use native.Mathlib.Omega.{arith}
 use Rattle.std.proofs.Math.ListN.{length, take, drop, length-append}
 use Rattle.std.proofs.lemmas.List.Edits.{sets}
 use Rattle.std.proofs.Math.Seq.{take-suc, drop_at}
 use Rattle.octets.specs.Octets.{same_octets}
-use Rattle.image.specs.Spelling.{spells, Layout, sets_then, same_append, same_then}
+use Rattle.image.specs.Spelling.{spells, Layout, sets_then, same_then}
 
 unfoldable pub spell_all : {A : Type 0} → (A → List ℕ) → List A → List ℕ
 spell_all spell [] = []

@@ -1,5 +1,5 @@
 -- The layouts KIND (13 octets), SEGMENT (15) and HEAD (23), and their parts. What is absent is 0 in full width. Assumes nothing.
-use Rattle.std.specs.Prelude.{◌≡◌, refl, Bool, true, false, cond, ◌&&◌, List, [], ◌∷◌, ◌++◌, ℕ, ◌+◌, ◌*◌, ◌/◌, ◌%◌, ◌≤◌, ◌<◌, eqb, length, get_or, take, drop}
+use Rattle.std.specs.Prelude.{◌≡◌, refl, Bool, true, false, cond, ◌&&◌, List, [], ◌∷◌, ◌++◌, ℕ, ◌≤◌, ◌<◌, eqb, length, get_or, drop}
 use Rattle.std.proofs.Common.{sym, ap, ap₂, ◌∙◌, arith, eq-eqb, length-append, drop-drop, get_or-drop}
 use Rattle.octets.specs.Octets.{same_octets}
 use Rattle.tsar.specs.Layout.{type_number, compression_number, window_number, status_number as crc_status_number}
@@ -16,7 +16,7 @@ use Rattle.tsar.specs.declared.SegmentKind.TheVariants.{Begin, Continue, End}
 use Rattle.tsar.specs.declared.Segment.{Segment}
 use Rattle.tsar.specs.declared.SegmentHead.{SegmentHead}
 use Rattle.image.specs.Spelling.{spells, Layout, spell_octet, read_octet, AnyOctet, octet_layout, spell_both, read_both, both_layout, both_spells, as_layout}
-use Rattle.image.specs.Numbers.{spell, value_from, value, number_of, number_layout, number_back, octets_from, listed}
+use Rattle.image.specs.Numbers.{spell, value_from, number_of, number_layout, number_back, octets_from, listed}
 use Rattle.image.specs.Cases.{compression_of, window_of, crc_status_of, compression_back, window_back, crc_status_back}
 
 and_true : (b : Bool) → (b && true) ≡ b

@@ -1,6 +1,6 @@
 -- What it means that octets spell a value of a type: how the value is spelled, how it is read off the front of a list, and the strict
 -- test, that spelling what is read gives the octets back. The laws hold for every type and width. Assumes nothing.
-use Rattle.std.specs.Prelude.{◌≡◌, refl, Bool, true, false, ◌&&◌, ℕ, zero, suc, ◌+◌, ◌-◌, ◌*◌, ◌≤◌, ◌<◌, eqb, get_or, set, take, drop}
+use Rattle.std.specs.Prelude.{◌≡◌, refl, Bool, true, false, ◌&&◌, ℕ, suc, ◌+◌, ◌-◌, ◌≤◌, eqb, get_or, set, take, drop}
 use Rattle.std.proofs.Common.{sym, ap₂, ◌∙◌, add-one, arith, eq-eqb, length-append, length-drop, take-append-drop, drop_of_length-le, length-take-le, take_all, drop_at, take-add}
 use Rattle.std.proofs.Math.Path.{ap}
 use mathlib.Core.List.{List, [], ◌∷◌, ◌++◌, append-nil, append_assoc}

@@ -20,19 +20,19 @@ pub const SEGMENT_OCTETS: usize = 15;
 pub const HEAD_OCTETS: usize = 23;
 
 // What octets spell, and whether they are the octets of that.
-#[derive(Drop)]
+#[derive(Clone, Copy)]
 pub struct KindRead {
     pub ok: bool,
     pub kind: SegmentKind,
 }
 
-#[derive(Drop)]
+#[derive(Clone, Copy)]
 pub struct SegmentRead {
     pub ok: bool,
     pub segment: Segment,
 }
 
-#[derive(Drop)]
+#[derive(Clone, Copy)]
 pub struct HeadRead {
     pub ok: bool,
     pub head: SegmentHead,

@@ -1,16 +1,14 @@
 -- The layout RESPONSE, 41 octets: transaction, status, number of entries, marks, support list. Assumes nothing.
-use Rattle.std.specs.Prelude.{◌≡◌, Bool, true, false, cond, eqb, get_or, drop}
+use Rattle.std.specs.Prelude.{◌≡◌, Bool, cond, eqb, get_or, drop}
 use Rattle.std.proofs.Math.Path.{refl, ap}
-use Rattle.std.proofs.Common.{sym, ap₂, ◌∙◌, arith, drop-drop, get_or-drop}
+use Rattle.std.proofs.Common.{◌∙◌, arith, drop-drop, get_or-drop}
 use mathlib.Core.List.{List, [], ◌∷◌, ◌++◌}
-use Prim.Native.Nat.{ℕ, ◌+◌, ◌≤◌, ◌<◌}
+use Prim.Native.Nat.{ℕ, ◌+◌, ◌<◌}
 use Rattle.std.proofs.Math.ListN.{length, length-append}
 use Rattle.std.proofs.Math.Seq.{sets}
 use Rattle.words.specs.declared.Words.{Words}
 use Rattle.response.specs.Responses.{status_number}
 use Rattle.response.specs.declared.Status.{Status}
-use Rattle.response.specs.declared.AcknowledgmentMap.{AcknowledgmentMap}
-use Rattle.response.specs.declared.OptionalServicesSupport.{OptionalServicesSupport}
 use Rattle.response.specs.declared.SupportList.{SupportList}
 use Rattle.response.specs.declared.SupportList.TheVariants as support
 use Rattle.response.specs.declared.Response.{Response}

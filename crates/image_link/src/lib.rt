@@ -1,4 +1,6 @@
 // The layouts of what both machines hold: peers, protocols, marks and responses. Internal to the exports, as the crate image is.
+#![tactic(auto)]
+
 ghost use Rattle.std.specs.Prelude.{◌≡◌, true, ◌+◌, ◌≤◌, length};
 ghost use Rattle.std.proofs.lemmas.List.Edits.{sets};
 ghost use Rattle.image.specs.Spelling.{spells};
@@ -15,7 +17,7 @@ use words::Words;
 pub const RESPONSE_OCTETS: usize = 41;
 
 // A response that octets spell, and whether they are the octets of that.
-#[derive(Drop)]
+#[derive(Clone, Copy)]
 pub struct ResponseRead {
     pub ok: bool,
     pub response: Response,

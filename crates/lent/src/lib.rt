@@ -1,10 +1,12 @@
 // The receiver as the firmware calls it: lent by `&mut`, with receive, advance and cancel as the source names them, and release. Each takes
 // what is lent apart, makes the call of the same name by value, stores what that hands back, and answers.
 //
-// The contracts cite the definitions of the calls by value, receiveOf, advanceOf, cancelOf and releaseOf, at the record, the store and the
-// output on entry and on exit. These are the step function stepOf (crates/delivery, specs/Calls) of which demand 3 is proved (specs/Theorem,
+// The contracts cite the definitions of the calls by value, receive_of, advance_of, cancel_of and release_of, at the record, the store and the
+// output on entry and on exit. These are the step function step_of (crates/delivery, specs/Calls) of which demand 3 is proved (proofs/Theorem,
 // demand3): a list of lent calls goes through the steps that demand 3 speaks of, so its statement is carried over to the lent calls as it
 // stands.
+#![tactic(auto)]
+
 ghost use Rattle.std.specs.Prelude.{◌≡◌};
 ghost use Rattle.receiver.specs.Record.{interval_of};
 ghost use Rattle.receiver.specs.Receive.{receive_of};
@@ -16,7 +18,7 @@ use receiver::{AdvanceAnswer, CancelAnswer, ReceiveAnswer, Receiver};
 use tsar::Segment;
 
 // A receiver that the firmware keeps in one place and lends to each call.
-#[derive(Drop)]
+#[derive(Clone, Copy)]
 pub struct LentReceiver {
     pub receiver: Receiver,
 }

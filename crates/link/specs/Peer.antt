@@ -1,5 +1,5 @@
 -- When a peer and a protocol are refused, and when two are the same: document 01, the paragraph on what the text in hand lacks.
-use Rattle.std.specs.Prelude.{ℕ, ◌^◌, Bool, true, false, ◌&&◌, ◌||◌, eqb, leb, ltb}
+use Rattle.std.specs.Prelude.{◌^◌, Bool, true, false, ◌&&◌, ◌||◌, eqb, leb, ltb}
 use Rattle.link.specs.declared.MobileIdentity.{MobileIdentity}
 use Rattle.link.specs.declared.HigherLayerProtocol.{HigherLayerProtocol}
 use Rattle.link.specs.declared.HigherLayerProtocol.TheVariants.{Segmented, CarrierSpecific, Other}

@@ -1,4 +1,6 @@
 // Who a segment is for: the peer and the protocol, which the source takes from link/rach.rs and l3/relay.rs.
+#![tactic(auto)]
+
 ghost use Rattle.std.specs.Prelude.{◌≡◌};
 ghost use Rattle.link.specs.Peer.{identity_refused, same_identity, protocol_served, same_protocol};
 
@@ -10,7 +12,7 @@ const MAX_WIDTH: u8 = 63;
 const SEGMENTED_CARRIER_BITS: u8 = 0xc0;
 
 // A peer: kind, width and value.
-#[derive(Drop)]
+#[derive(Clone, Copy)]
 pub struct MobileIdentity {
     pub kind: u8,
     pub width: u8,
@@ -18,7 +20,7 @@ pub struct MobileIdentity {
 }
 
 // A protocol, each with an octet.
-#[derive(Drop)]
+#[derive(Clone, Copy)]
 pub enum HigherLayerProtocol {
     Segmented(u8),
     CarrierSpecific(u8),

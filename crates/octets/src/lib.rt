@@ -1,11 +1,13 @@
 // Lent octets: copied to a place, wiped, compared. Each call is total: a copy and a wipe leave out what would lie past a slice's end.
+#![tactic(auto)]
+
 ghost use Rattle.std.specs.Prelude.{◌≡◌, min, ◌-◌};
 ghost use Rattle.std.proofs.lemmas.List.Edits.{sets};
 ghost use Rattle.octets.specs.Octets.{wiped_to, same_octets};
 ghost use Rattle.octets.specs.Compare.{compared_of};
 
 // What a comparison found: whether both are the same, and how many octets of each it looked at.
-#[derive(Drop)]
+#[derive(Clone, Copy)]
 pub struct Compared {
     pub same: bool,
     pub looked: usize,

@@ -143,10 +143,16 @@ arranged_rising (suc m) l j k e r h b =
     (le_or_lt (suc (k / factorial m)) (j / factorial m)))
     (le_or_lt (suc (j / factorial m)) (k / factorial m))
 
+-- of two lists that are the same none is before the other
+never_same : (l m : List ℕ) → Before l m → l ≡ m → ⊥
+never_same [] m x' e = elim x' [ ]
+never_same (x ∷ l) [] x' e = elim x' [ ]
+never_same (x ∷ l) (y ∷ m) (less h) e = let q : x ≡ y = cc in omega arith
+never_same (x ∷ l) (y ∷ m) (same b) e = let q : l ≡ m = cc in never_same l m b q
+
 -- no list is before itself
 pub never_itself : (l : List ℕ) → Before l l → ⊥
-never_itself (x ∷ l) (less h) = omega arith
-never_itself (x ∷ l) (same b) = never_itself l b
+never_itself l b = never_same l l b refl
 
 -- ---- the orders of a train
 

@@ -1,4 +1,4 @@
--- Document 02, 2026-10: what is shown of the orders and of the call: of `writeOrderOf`, which the contract cites, and of `order_of` and `ordersOf` in it.
+-- Document 02, 2026-10: what is shown of the orders and of the call: of `write_order_of`, which the contract cites, and of `order_of` and `orders_of` in it.
 use Rattle.std.specs.Prelude.{ℕ, ◌+◌, ◌≤◌, ◌<◌, ◌≡◌, cond, List, [], ◌∷◌, ◌++◌, length, get_or, drop, eqb, ltb}
 use Rattle.std.proofs.Math.Option.{none, some}
 use Rattle.orders.specs.declared.OrderAnswer.{OrderAnswer}

@@ -1,15 +1,17 @@
 // The delivery orders of a short train: Begin first, the others in every order, numbered in lexicographic order (2026-10).
+#![tactic(auto)]
+
 ghost use Rattle.std.specs.Prelude.{◌≡◌, ◌∷◌, ◌≤◌, ◌<◌, length, get_or};
 ghost use Rattle.orders.specs.Orders.{factorial, without, arranged, count_from, write_order_of, ordered_by};
 
 // Why no order is written: 28 and 61.
-#[derive(Drop)]
+#[derive(Clone, Copy)]
 pub enum OrderError {
     Number,
     Output,
 }
 
-#[derive(Drop)]
+#[derive(Clone, Copy)]
 pub enum OrderAnswer {
     Written,
     Refused(OrderError),

@@ -8,8 +8,7 @@ use Rattle.std.proofs.lemmas.List.Edits.{sets}
 use Rattle.tsar.specs.Rows.{Refusal, refusal}
 use Rattle.tsar.specs.declared.SegmentHead.{SegmentHead}
 use Rattle.segmentation.specs.Plan.{Planning}
-use Rattle.segmentation.specs.Frozen.{Proposal, Checked, try_from_frozen}
-use Rattle.segmentation.specs.declared.PlannedSegment.{PlannedSegment}
+use Rattle.segmentation.specs.Frozen.{try_from_frozen}
 use Rattle.sender.specs.TryNew.{plan_segment}
 use Rattle.sender.specs.declared.Plan.{Plan}
 use Rattle.image.specs.Spelling.{put_spells}

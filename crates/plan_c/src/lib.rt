@@ -1,4 +1,6 @@
 // The exported planners, frozen check, converter and delivery orders, on numbers and octet slices. A plan comes out as a sender's plan (PLAN).
+#![tactic(auto)]
+
 ghost use Rattle.std.specs.Prelude.{◌≡◌, ◌≤◌, length};
 ghost use Rattle.segmentation.specs.Numbers.{planning_number};
 ghost use Rattle.segmentation.specs.Plan.{planned_by};

@@ -1,5 +1,5 @@
 -- The layout of the record of the frozen check, 5913 octets: a row (count, message octets, budget, window), and 256 heads. Assumes nothing.
-use Rattle.std.specs.Prelude.{◌≡◌, refl, Bool, ◌&&◌, List, ◌++◌, ℕ, ◌+◌, ◌*◌, ◌-◌, ◌≤◌, ◌<◌, length, get_or, drop, take}
+use Rattle.std.specs.Prelude.{◌≡◌, refl, Bool, ◌&&◌, List, ◌++◌, ℕ, ◌+◌, ◌*◌, ◌≤◌, ◌<◌, length, get_or, drop, take}
 use Rattle.std.proofs.Common.{sym, ap, ◌∙◌, arith, length-drop, length-take-le, get_or-take}
 use Rattle.std.proofs.lemmas.List.Edits.{sets}
 use Rattle.tsar.specs.Layout.{window_number}

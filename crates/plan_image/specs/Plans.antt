@@ -1,7 +1,7 @@
 -- The layout PLAN of a sender's plan, 5958 octets: the layout's version, 1, and the plan's body, 5957 octets: its form (0 planned, 1 frozen),
 -- the record of a planner, all 0 under frozen, and the record of the frozen check. Assumes nothing.
-use Rattle.std.specs.Prelude.{◌≡◌, refl, Bool, true, false, cond, ◌&&◌, List, [], ◌∷◌, ◌++◌, ℕ, ◌+◌, ◌≤◌, eqb, length, get_or, drop}
-use Rattle.std.proofs.Common.{ap, arith}
+use Rattle.std.specs.Prelude.{◌≡◌, refl, Bool, true, false, cond, ◌&&◌, List, [], ◌∷◌, ◌++◌, ℕ, ◌≤◌, eqb, length, get_or, drop}
+use Rattle.std.proofs.Common.{arith}
 use Rattle.std.proofs.lemmas.List.Edits.{sets}
 use Rattle.octets.specs.Octets.{same_octets}
 use Rattle.tsar.specs.declared.AcknowledgmentWindow.TheVariants.{Prohibited}

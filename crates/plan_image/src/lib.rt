@@ -1,5 +1,7 @@
 // A sender's plan in lent octets: PLAN, and its body, which the image of a sender has too. Internal to the exports: a call that reads or
 // writes asks that the octets are there.
+#![tactic(auto)]
+
 ghost use Rattle.std.specs.Prelude.{◌≡◌, true, ◌&&◌, [], ◌∷◌, ◌+◌, ◌≤◌, length, drop};
 ghost use Rattle.std.proofs.lemmas.List.Edits.{sets};
 ghost use Rattle.segmentation.specs.Frozen.{no_head};
@@ -30,7 +32,7 @@ const FORM_OCTETS: usize = 44;
 const FRONT_OCTETS: usize = 25;
 
 // Three numbers and an octet.
-#[derive(Drop)]
+#[derive(Clone, Copy)]
 pub struct Row {
     pub first: u64,
     pub second: u64,
@@ -39,7 +41,7 @@ pub struct Row {
 }
 
 // What the record of the frozen check has beside its heads.
-#[derive(Drop)]
+#[derive(Clone, Copy)]
 pub struct Front {
     pub count: usize,
     pub message_octets: usize,
@@ -48,31 +50,31 @@ pub struct Front {
 }
 
 // What octets spell, and whether they are the octets of that.
-#[derive(Drop)]
+#[derive(Clone, Copy)]
 pub struct FormRead {
     pub ok: bool,
     pub form: PlanForm,
 }
 
-#[derive(Drop)]
+#[derive(Clone, Copy)]
 pub struct FrontRead {
     pub ok: bool,
     pub front: Front,
 }
 
-#[derive(Drop)]
+#[derive(Clone, Copy)]
 pub struct HeadsRead {
     pub ok: bool,
     pub heads: [SegmentHead; 256],
 }
 
-#[derive(Drop)]
+#[derive(Clone, Copy)]
 pub struct FrozenRead {
     pub ok: bool,
     pub frozen: FrozenMessage,
 }
 
-#[derive(Drop)]
+#[derive(Clone, Copy)]
 pub struct PlanRead {
     pub ok: bool,
     pub plan: Plan,

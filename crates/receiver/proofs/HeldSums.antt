@@ -7,13 +7,12 @@ use native.Mathlib.Nat.{add-zero, add-suc, add_assoc, mul-one, mul-zero}
 use native.Mathlib.Omega.{arith}
 use borrow.Author.Tests.{leb-true, leb-false, lt-ltb, le-ltb}
 use lib.Dec.{leb, ltb}
-use lib.ListN.{get_or}
 use Rattle.words.specs.Marks.{bit, all_below}
 use Rattle.words.specs.Search.{all_below_ext}
 use Rattle.words.specs.Sums.{bit_cond, bit_sum, sum_front}
 use Rattle.words.specs.declared.Words.{Words}
 use Rattle.receiver.specs.Record.{held_length, sum_to}
-use Rattle.receiver.specs.Steps.{Added, word_length, Upto}
+use Rattle.receiver.specs.Steps.{Added, Upto}
 use Rattle.receiver.specs.declared.faults.HeldLengths.{HeldLengths}
 
 -- ---- sums and questions, one more and in two parts

@@ -1,5 +1,5 @@
 -- What try_new, advance, cancel and release answer and leave.
-use Rattle.std.specs.Prelude.{ℕ, ◌+◌, ◌-◌, List, [], ◌∷◌, ◌++◌, Bool, true, false, not, ◌||◌, length, ltb}
+use Rattle.std.specs.Prelude.{ℕ, List, [], ◌∷◌, ◌++◌, Bool, true, false, not, ◌||◌, length, ltb}
 use Rattle.std.proofs.Math.Option.{Option, none, some}
 use Rattle.words.specs.Marks.{no_marks}
 use Rattle.link.specs.Peer.{identity_refused, protocol_served}
@@ -21,8 +21,7 @@ use Rattle.receiver.specs.declared.Deadline.TheVariants as deadline
 use Rattle.receiver.specs.declared.Terms.{Terms}
 use Rattle.receiver.specs.declared.Receiver.{Receiver}
 use Rattle.receiver.specs.Record.{awaiting, receiving, complete, due, store_octets, empty_slots, empty_lengths, wiped, impossible, with, timed, read, closed}
-use Rattle.receiver.specs.Answers.{Step, refuses, respond, refused, answered}
-use Rattle.receiver.specs.Receive.{kind}
+use Rattle.receiver.specs.Answers.{Step, refuses, respond, answered}
 
 -- ---- try_new
 

@@ -1,16 +1,15 @@
 -- What a call answers and leaves, and the responses that it asks for: document 01, 'Port order' 3, with link/tsar/receiver.rs. Beside each response
 -- stand the figures of its map's missing entries: document 02, 2026-01.
-use Rattle.std.specs.Prelude.{ℕ, suc, ◌+◌, ◌-◌, ◌%◌, min, List, Bool, true, false, cond, not, ◌&&◌, ◌||◌, eqb, leb}
+use Rattle.std.specs.Prelude.{ℕ, suc, ◌+◌, ◌%◌, min, List, Bool, true, false, cond, not, ◌&&◌, ◌||◌, eqb, leb}
 use Rattle.std.proofs.Math.Option.{Option, none, some}
 use Rattle.words.specs.Marks.{marked, highest_of}
 use Rattle.words.specs.declared.Words.{Words}
 use Rattle.words.specs.declared.Found.{Found}
 use Rattle.words.specs.declared.Found.TheVariants as found
-use Rattle.tsar.specs.Rows.{Refusal, refusal}
+use Rattle.tsar.specs.Rows.{Refusal}
 use Rattle.tsar.specs.Kinds.{is_end, prohibited}
 use Rattle.tsar.specs.declared.AcknowledgmentWindow.{AcknowledgmentWindow}
 use Rattle.tsar.specs.declared.AcknowledgmentWindow.TheVariants as window
-use Rattle.tsar.specs.declared.SegmentKind.TheVariants.{End}
 use Rattle.tsar.specs.declared.Segment.{Segment}
 use Rattle.response.specs.Responses.{status_number, map_of, figures_of}
 use Rattle.response.specs.declared.Status.{Status}
@@ -20,7 +19,6 @@ use Rattle.receiver.specs.declared.EndSequence.{EndSequence}
 use Rattle.receiver.specs.declared.EndSequence.TheVariants as end
 use Rattle.receiver.specs.declared.Receiver.{Receiver}
 use Rattle.receiver.specs.declared.Reported.{Reported}
-use Rattle.receiver.specs.Record.{due, with}
 
 -- ---- what a call answers and leaves
 

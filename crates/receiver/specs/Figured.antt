@@ -1,7 +1,7 @@
 -- Document 02, 2026-01: every answer that carries a response carries the figures of that response's own map. A law of each call, over any record,
 -- segment, store, reading and interval; and, where the end that a record knows and the sequence number are octets, what these figures say of the
 -- map. Assumes nothing.
-use Rattle.std.specs.Prelude.{ℕ, suc, ◌+◌, ◌≤◌, ◌<◌, min, ◌≡◌, refl, List, Bool, cond, ◌&&◌, eqb, leb}
+use Rattle.std.specs.Prelude.{ℕ, ◌+◌, ◌<◌, ◌≡◌, refl, List, Bool, cond, ◌&&◌, eqb, leb}
 use Rattle.std.proofs.Math.Bool.{true, false}
 use Rattle.std.proofs.Math.Option.{Option, none, some}
 use Rattle.std.proofs.Common.{arith}
@@ -19,11 +19,9 @@ use Rattle.response.specs.Responses.{status_number, figures_of}
 use Rattle.response.specs.MissingEntries.{AreFigures, are_figures}
 use Rattle.response.specs.declared.Status.{Status}
 use Rattle.response.specs.declared.Status.TheVariants as status
-use Rattle.receiver.specs.declared.ReceiverState.{ReceiverState}
 use Rattle.receiver.specs.declared.ReceiverState.TheVariants.{Receiving, Complete}
 use Rattle.receiver.specs.declared.EndSequence.{EndSequence}
 use Rattle.receiver.specs.declared.EndSequence.TheVariants as end
-use Rattle.receiver.specs.declared.Deadline.{Deadline}
 use Rattle.receiver.specs.declared.Deadline.TheVariants as deadline
 use Rattle.receiver.specs.declared.Receiver.{Receiver}
 use Rattle.receiver.specs.declared.Reported.{Reported}

@@ -1,5 +1,4 @@
 -- Document 01's numbers, 'Refusals by what is returned': 30 to 38, 60 to 62, and the codec's own; 64 is change request 2026-11's.
-use Rattle.std.specs.Prelude.{ℕ}
 use Rattle.tsar.specs.Rows.{Refusal}
 use Rattle.tsar.specs.Numbers.{number}
 use Rattle.receiver.specs.declared.ReceiveError.{ReceiveError}

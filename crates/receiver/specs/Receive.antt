@@ -14,10 +14,6 @@ use Rattle.tsar.specs.Writing.{codec_rows, length_in, crc_in}
 use Rattle.tsar.specs.declared.OptionalServices.{OptionalServices}
 use Rattle.tsar.specs.declared.MessageLength.{MessageLength}
 use Rattle.tsar.specs.declared.MessageLength.TheVariants.{Unstated, Stated}
-use Rattle.tsar.specs.declared.Services.{Services}
-use Rattle.tsar.specs.declared.Services.TheVariants as optional
-use Rattle.tsar.specs.declared.MessageCrc.{MessageCrc}
-use Rattle.tsar.specs.declared.MessageCrc.TheVariants as crc
 use Rattle.tsar.specs.declared.SegmentKind.{SegmentKind}
 use Rattle.tsar.specs.declared.SegmentKind.TheVariants.{Begin, Continue, End}
 use Rattle.tsar.specs.declared.Segment.{Segment}

@@ -1,6 +1,5 @@
 -- A receiver's record: states, slots, the lent store, the impossible states (62), and the records that calls leave.
-use Rattle.std.specs.Prelude.{ℕ, zero, suc, ◌+◌, ◌-◌, ◌*◌, List, [], ◌∷◌, ◌++◌, Bool, true, false, cond, not, ◌&&◌, ◌||◌, length, get_or, take, drop, replicate, eqb, leb, ltb}
-use Rattle.std.proofs.Math.Option.{none}
+use Rattle.std.specs.Prelude.{ℕ, zero, suc, ◌+◌, ◌*◌, List, [], ◌∷◌, ◌++◌, Bool, true, false, cond, not, ◌&&◌, ◌||◌, get_or, take, drop, replicate, eqb, leb, ltb}
 use Rattle.octets.specs.Octets.{wiped_to}
 use Rattle.words.specs.Marks.{marked, no_marks, all_below}
 use Rattle.words.specs.declared.Words.{Words}

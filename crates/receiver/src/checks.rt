@@ -12,14 +12,14 @@ use link::{HigherLayerProtocol, MobileIdentity};
 use tsar::{Segment, Validated};
 
 // What the tests before a call's work say.
-#[derive(Drop)]
+#[derive(Clone, Copy)]
 pub enum Check {
     Passed,
     Refused(ReceiveError),
 }
 
 // What a receive brings, with the number of its data octets.
-#[derive(Drop)]
+#[derive(Clone, Copy)]
 pub struct Brought {
     pub peer: MobileIdentity,
     pub protocol: HigherLayerProtocol,

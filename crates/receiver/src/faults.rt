@@ -18,7 +18,7 @@ const WORD_MARKS: usize = 64;
 const ALL_MARKS: u64 = 18_446_744_073_709_551_615;
 
 // What a scan of the held lengths has found: their sum, and whether one passes 255.
-#[derive(Drop)]
+#[derive(Clone, Copy)]
 pub struct HeldLengths {
     pub sum: usize,
     pub over: bool,

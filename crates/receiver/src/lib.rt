@@ -1,4 +1,6 @@
 // The receiver of one transaction: link/tsar/receiver.rs of the source. Its calls are in machine.
+#![tactic(auto)]
+
 ghost use Rattle.std.specs.Prelude.{◌≡◌};
 
 use link::{HigherLayerProtocol, MobileIdentity};
@@ -26,7 +28,7 @@ const SLOT_OCTETS: usize = 255;
 
 const STORE_OCTETS: usize = 65_280;
 
-#[derive(Drop)]
+#[derive(Clone, Copy)]
 pub enum ReceiverState {
     AwaitingBegin,
     Receiving,
@@ -37,21 +39,21 @@ pub enum ReceiverState {
 }
 
 // The sequence of the End, once one is held: the source's Option<u8>.
-#[derive(Drop)]
+#[derive(Clone, Copy)]
 pub enum EndSequence {
     Unknown,
     At(u8),
 }
 
 // The source's Option<u64>.
-#[derive(Drop)]
+#[derive(Clone, Copy)]
 pub enum Deadline {
     Off,
     At(u64),
 }
 
 // What try_new fixes. The profile says how long the receiver waits; a record can have any number there, and one of neither profile is impossible.
-#[derive(Drop)]
+#[derive(Clone, Copy)]
 pub struct Terms {
     pub peer: MobileIdentity,
     pub protocol: HigherLayerProtocol,
@@ -61,7 +63,7 @@ pub struct Terms {
     pub maximum_message_octets: usize,
 }
 
-#[derive(Drop)]
+#[derive(Clone, Copy)]
 pub struct Progress {
     pub state: ReceiverState,
     pub services: OptionalServices,
@@ -73,13 +75,13 @@ pub struct Progress {
 }
 
 // The kind of a held segment, with its parameters.
-#[derive(Drop)]
+#[derive(Clone, Copy)]
 pub struct Slot {
     pub kind: SegmentKind,
 }
 
 // A slot is held where held marks it, and only there. Its record is then its kind and its data length; its data are in the lent store.
-#[derive(Drop)]
+#[derive(Clone, Copy)]
 pub struct Receiver {
     pub terms: Terms,
     pub progress: Progress,
@@ -89,7 +91,7 @@ pub struct Receiver {
 }
 
 // The last four are document 01's 60, 61 and 62 and 2026-11's 64, which the source has not.
-#[derive(Drop)]
+#[derive(Clone, Copy)]
 pub enum ReceiveError {
     Identity,
     Service,
@@ -108,76 +110,76 @@ pub enum ReceiveError {
 }
 
 // A response with the figures of its map's missing entries, which stand beside it and not in it.
-#[derive(Drop)]
+#[derive(Clone, Copy)]
 pub struct Reported {
     pub response: Response,
     pub missing: Missing,
 }
 
 // A response that a call asks for: the source's Option<Response>, with the figures.
-#[derive(Drop)]
+#[derive(Clone, Copy)]
 pub enum Reply {
     Nothing,
     Response(Reported),
 }
 
 // A message that a call hands over: the first octets of the output, as many as this counts.
-#[derive(Drop)]
+#[derive(Clone, Copy)]
 pub enum Message {
     Nothing,
     Octets(usize),
 }
 
-#[derive(Drop)]
+#[derive(Clone, Copy)]
 pub struct Reception {
     pub response: Reply,
     pub message: Message,
 }
 
-#[derive(Drop)]
+#[derive(Clone, Copy)]
 pub enum TryNewAnswer {
     Made,
     Refused(ReceiveError),
 }
 
-#[derive(Drop)]
+#[derive(Clone, Copy)]
 pub enum ReceiveAnswer {
     Received(Reception),
     Refused(ReceiveError),
 }
 
-#[derive(Drop)]
+#[derive(Clone, Copy)]
 pub enum AdvanceAnswer {
     Advanced(Reply),
     Refused(ReceiveError),
 }
 
-#[derive(Drop)]
+#[derive(Clone, Copy)]
 pub enum CancelAnswer {
     Canceled,
     Refused(ReceiveError),
 }
 
 // What a call gives: the answer, and the receiver as the call leaves it.
-#[derive(Drop)]
+#[derive(Clone, Copy)]
 pub struct TryNew {
     pub answer: TryNewAnswer,
     pub receiver: Receiver,
 }
 
-#[derive(Drop)]
+#[derive(Clone, Copy)]
 pub struct Receive {
     pub answer: ReceiveAnswer,
     pub receiver: Receiver,
 }
 
-#[derive(Drop)]
+#[derive(Clone, Copy)]
 pub struct Advance {
     pub answer: AdvanceAnswer,
     pub receiver: Receiver,
 }
 
-#[derive(Drop)]
+#[derive(Clone, Copy)]
 pub struct Cancel {
     pub answer: CancelAnswer,
     pub receiver: Receiver,

@@ -26,7 +26,7 @@ use tsar::{MessageLength, Segment, SegmentKind, Services, Validated};
 use words::Words;
 
 // What a deadline does, where it is due: the reply, and the progress of a reception that goes on or has expired.
-#[derive(Drop)]
+#[derive(Clone, Copy)]
 pub struct Fired {
     pub reply: Reply,
     pub progress: Progress,

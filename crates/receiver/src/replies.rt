@@ -22,7 +22,7 @@ const MULTIPLE_SERVICES: u8 = 13;
 const RECEIVED: u8 = 10;
 
 // What of a receiver its responses and its closing read.
-#[derive(Drop)]
+#[derive(Clone, Copy)]
 pub struct Standing {
     pub services: OptionalServices,
     pub end_sequence: EndSequence,

@@ -19,7 +19,7 @@ use tsar::{MessageLength, OptionalServices, Segment, SegmentKind};
 use words::Words;
 
 // How far a segment was taken before the reception failed: not at all; its services; its length too; or held.
-#[derive(Drop)]
+#[derive(Clone, Copy)]
 pub enum Stage {
     Before,
     Begun,
@@ -27,7 +27,7 @@ pub enum Stage {
     Keeping,
 }
 
-#[derive(Drop)]
+#[derive(Clone, Copy)]
 pub enum Decision {
     Fails(Stage, Status),
     Repeats,
@@ -38,7 +38,7 @@ pub enum Decision {
 
 // What the slots say of a segment's place: whether it is held, with how many octets, and whether with this very segment; whether no slot
 // past it is held; and whether with it the slots up to the end are.
-#[derive(Drop)]
+#[derive(Clone, Copy)]
 pub struct Place {
     pub held: bool,
     pub octets: usize,
@@ -48,7 +48,7 @@ pub struct Place {
 }
 
 // The octets of the segment, those stored with it, and the most that may be.
-#[derive(Drop)]
+#[derive(Clone, Copy)]
 pub struct Amounts {
     pub octets: usize,
     pub total: usize,

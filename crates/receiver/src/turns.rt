@@ -27,7 +27,7 @@ use tsar::{Segment, SegmentKind};
 use words::Words;
 
 // What becomes of the slots: they stay, the segment's takes its slot, or all are emptied.
-#[derive(Drop)]
+#[derive(Clone, Copy)]
 pub enum Slots {
     Unchanged,
     Holding,
@@ -35,7 +35,7 @@ pub enum Slots {
 }
 
 // The answer, and the record beside its terms. Where the slots are emptied so are the marks, whatever stands here.
-#[derive(Drop)]
+#[derive(Clone, Copy)]
 pub struct Turn {
     pub answer: ReceiveAnswer,
     pub progress: Progress,

@@ -1,4 +1,6 @@
 // What a receiver answers, in numbers and octets. Internal to the exports, as the crate image is.
+#![tactic(auto)]
+
 ghost use Rattle.std.specs.Prelude.{◌≡◌, ◌+◌, ◌≤◌, length};
 ghost use Rattle.std.proofs.lemmas.List.Edits.{sets};
 ghost use Rattle.codec_c.specs.Codes.{code_of};

@@ -19,7 +19,7 @@ use Rattle.image.specs.Segments.{segment_of}
 use Rattle.image.specs.Cases.{protocol_of}
 use Rattle.receiver_image.specs.Images.{image_of, record_of, ReceiverFits, receiver_layout}
 use Rattle.receiver_answers.specs.Answers.{answer_code, reply_octets, reception_octets, no_octets}
-use Rattle.receiver_c.specs.Calls.{Call, spelled_by, call, step_call, receive_tests, receive_call, advance_tests, advance_call, closing_tests, closing_call, cancel_call, release_call, new_tests, new_gives, new_call}
+use Rattle.receiver_c.specs.Calls.{spelled_by, call, step_call, receive_tests, receive_call, advance_tests, advance_call, closing_tests, closing_call, cancel_call, release_call, new_tests, new_gives, new_call}
 
 -- ---- tests
 

@@ -1,4 +1,6 @@
 // The exported receiver, on numbers and octet slices. Its record is RECEIVER, its store and output are lent to each call.
+#![tactic(auto)]
+
 ghost use Rattle.std.specs.Prelude.{◌≡◌, [], ◌≤◌, length};
 ghost use Rattle.receiver.specs.Record.{interval_of};
 ghost use Rattle.receiver.specs.Receive.{receive_of};

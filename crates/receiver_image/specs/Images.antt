@@ -1,5 +1,5 @@
 -- The layout RECEIVER, 3,931 octets: head (91), data lengths (256 x 2), slots (256 x 13). Any record whose numbers fit their types is read
--- back as it was, impossible ones too, and what is read and put back changes no octet (receiver-layout, with the laws of every layout).
+-- back as it was, impossible ones too, and what is read and put back changes no octet (receiver_layout, with the laws of every layout).
 -- Assumes nothing.
 use Rattle.std.specs.Prelude.{◌≡◌, Bool, true, ◌&&◌, take, drop}
 use Rattle.std.proofs.Math.Path.{refl, ap, ap₂}

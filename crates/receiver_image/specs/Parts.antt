@@ -1,5 +1,5 @@
 -- The layouts of a receiver's state (2 octets), its end (2) and its deadline (9). What does not apply is 0. Assumes nothing.
-use Rattle.std.specs.Prelude.{◌≡◌, refl, Bool, true, false, cond, List, [], ◌∷◌, ◌++◌, ℕ, ◌<◌, eqb, length, get_or, drop}
+use Rattle.std.specs.Prelude.{◌≡◌, refl, cond, List, [], ◌∷◌, ◌++◌, ℕ, ◌<◌, eqb, length, get_or, drop}
 use Rattle.std.proofs.Common.{ap}
 use Rattle.response.specs.Responses.{status_number}
 use Rattle.receiver.specs.declared.ReceiverState.{ReceiverState}

@@ -1,4 +1,6 @@
 // The layout RECEIVER: a receiver's record in 3,931 octets, put and got with the strict test. Internal to the exports, as the crate image is.
+#![tactic(auto)]
+
 ghost use Rattle.std.specs.Prelude.{◌≡◌, true, ◌&&◌, ◌≤◌, length};
 ghost use Rattle.std.proofs.lemmas.List.Edits.{sets};
 ghost use Rattle.receiver_image.specs.Images.{image_of, record_of, image_ok, ReceiverFits};
@@ -18,7 +20,7 @@ pub const RECEIVER_OCTETS: usize = 3931;
 const LAYOUT_VERSION: u8 = 2;
 
 // All of a receiver but the slots.
-#[derive(Drop)]
+#[derive(Clone, Copy)]
 pub struct Head {
     pub terms: Terms,
     pub progress: Progress,
@@ -26,19 +28,19 @@ pub struct Head {
 }
 
 // What octets spell, and whether they are the octets of that.
-#[derive(Drop)]
+#[derive(Clone, Copy)]
 pub struct HeadRead {
     pub ok: bool,
     pub head: Head,
 }
 
-#[derive(Drop)]
+#[derive(Clone, Copy)]
 pub struct SlotsRead {
     pub ok: bool,
     pub slots: [Slot; 256],
 }
 
-#[derive(Drop)]
+#[derive(Clone, Copy)]
 pub struct ReceiverRead {
     pub ok: bool,
     pub receiver: Receiver,

@@ -1,4 +1,6 @@
 // Replays the recorded lists of data/, which hold what the original Rust answered (oracle/RECORDED.md), and prints a line for each list.
+#![tactic(auto)]
+
 mod answer;
 mod case;
 mod codec;
@@ -17,9 +19,11 @@ mod sending;
 mod state;
 mod terms;
 
-fn main() {
-    run::replay(b"codec", b"codec.rec");
-    run::replay(b"plan", b"plan.rec");
-    run::replay(b"receiver", b"receiver.rec");
-    run::replay(b"sender", b"sender.rec");
+use std::io;
+
+fn main(rt: HostRuntime) -> io::Result<()> {
+    run::replay(&rt, b"codec", "codec.rec")?;
+    run::replay(&rt, b"plan", "plan.rec")?;
+    run::replay(&rt, b"receiver", "receiver.rec")?;
+    run::replay(&rt, b"sender", "sender.rec")
 }

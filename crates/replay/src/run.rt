@@ -3,10 +3,13 @@ use crate::case::{ANSWER_OCTETS, LONG, PLAN_OCTETS, RECORD_OCTETS, call, is_same
 use crate::input::is_input;
 use crate::list::{MAX_ANSWER, MAX_INPUT, Next, next_case};
 use crate::number::front;
+use std::io::Read;
+use std::rt::Files;
+use std::{fs, io};
 use tally::{Outcome, Tally, say, say_number, say_octet};
 
 // How far a list has been replayed, how many lists of calls it has opened, and whether it goes on.
-#[derive(Drop)]
+#[derive(Clone, Copy)]
 struct Run {
     tally: Tally,
     calls: u64,
@@ -14,15 +17,15 @@ struct Run {
 }
 
 // Counts a case, and prints its number and its op where it is among the first that are not the same.
-fn counted(tally: Tally, op: u8, outcome: Outcome) -> Tally {
+fn counted(rt: &impl Print, tally: Tally, op: u8, outcome: Outcome) -> io::Result<Tally> {
     let next = tally.count(outcome);
     if next.shows(outcome) {
-        next.say_case(outcome);
-        say(b", op ");
-        say_octet(op);
-        say(b"\n");
+        next.say_case(rt, outcome)?;
+        say(rt, b", op ")?;
+        say_octet(rt, op)?;
+        say(rt, b"\n")?;
     }
-    next
+    Ok(next)
 }
 
 // One more list of calls where the op opens one, as far as numbers go.
@@ -64,31 +67,32 @@ impl Run {
         }
     }
 
-    fn with(self, op: u8, outcome: Outcome) -> Run {
+    fn with(self, rt: &impl Print, op: u8, outcome: Outcome) -> io::Result<Run> {
         let tally = self.tally;
-        Run {
-            tally: counted(tally, op, outcome),
+        Ok(Run {
+            tally: counted(rt, tally, op, outcome)?,
             calls: calls_with(op, self.calls),
             going: self.going,
-        }
+        })
     }
 
     // Replays the next case.
     fn next(
         self,
-        fd: i32,
+        rt: &impl Print,
+        file: &mut impl Read,
         record: &mut [u8; RECORD_OCTETS],
         plan: &mut [u8; PLAN_OCTETS],
         store: &mut [u8; LONG],
         output: &mut [u8; LONG],
-    ) -> Run {
+    ) -> io::Result<Run> {
         let mut input = [0u8; MAX_INPUT];
         let mut expected = [0u8; MAX_ANSWER];
-        match next_case(fd, &mut input, &mut expected) {
-            Next::End => self.ended(),
+        match next_case(file, &mut input, &mut expected)? {
+            Next::End => Ok(self.ended()),
             Next::Cut => {
-                say(b"  the list ends within a case\n");
-                self.ended()
+                say(rt, b"  the list ends within a case\n")?;
+                Ok(self.ended())
             }
             Next::Case {
                 op,
@@ -104,27 +108,26 @@ impl Run {
                     store,
                     output,
                 );
-                self.with(op, seen)
+                self.with(rt, op, seen)
             }
         }
     }
 
     // The line of a list, with the number of its lists of calls where it has any.
-    fn report(self, name: &[u8]) {
+    fn report(self, rt: &impl Print, name: &[u8]) -> io::Result<()> {
         let tally = self.tally;
         if self.calls == 0 {
-            tally.report(name);
-            return;
+            return tally.report(rt, name);
         }
-        say(name);
-        say(b", ");
-        say_number(self.calls);
-        tally.report(b" lists of calls");
+        say(rt, name)?;
+        say(rt, b", ")?;
+        say_number(rt, self.calls)?;
+        tally.report(rt, b" lists of calls")
     }
 }
 
 // A list ends, but nothing says so: the turns are counted down from a number that no list uses up.
-fn all(fd: i32) -> Run {
+fn all(rt: &impl Print, file: &mut impl Read) -> io::Result<Run> {
     let mut record = [0u8; RECORD_OCTETS];
     let mut plan = [0u8; PLAN_OCTETS];
     let mut store = [0u8; LONG];
@@ -137,19 +140,18 @@ fn all(fd: i32) -> Run {
     let mut turns = u64::MAX;
     while turns > 0 && run.going {
         turns -= 1;
-        run = run.next(fd, &mut record, &mut plan, &mut store, &mut output);
+        run = run.next(rt, file, &mut record, &mut plan, &mut store, &mut output)?;
     }
-    run
+    Ok(run)
 }
 
 // Replays the list of a name that stands at a path.
-pub fn replay(name: &[u8], path: &[u8]) {
-    let fd = os::open_read(path);
-    if fd < 0 {
-        os::fail(path);
-        return;
+pub fn replay(rt: &(impl Files + Print + Eprint), name: &[u8], path: &str) -> io::Result<()> {
+    match fs::open(rt, path) {
+        Ok(mut file) => {
+            let run = all(rt, &mut file)?;
+            run.report(rt, name)
+        }
+        Err(e) => eprintln!(rt; "{path}: {e}"),
     }
-    let run = all(fd);
-    libc::close(fd);
-    run.report(name);
 }

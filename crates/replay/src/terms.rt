@@ -12,7 +12,7 @@ const OCTET: usize = 11;
 // The original waits as profile 1 does.
 pub const PROFILE_1: u8 = 1;
 
-#[derive(Drop)]
+#[derive(Clone, Copy)]
 pub struct Terms {
     pub kind: u8,
     pub width: u8,

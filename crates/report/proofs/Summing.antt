@@ -12,7 +12,7 @@ use Rattle.report.specs.declared.outcome.Event.TheVariants as event
 use Rattle.report.specs.declared.outcome.Summary.{Summary}
 use Rattle.report.specs.declared.outcome.Results.{Results}
 use Rattle.report.specs.declared.outcome.Told.{Told}
-use Rattle.report.specs.Outcome.{hands, handed_by, fails_at, bad_line_of, or_else, handed_over, fails, fails_later, has_bad_line, rebuilt, all_rebuilt, is_some, every_rebuilt, nothing_yet, stepped, rebuilt_by, with_result, every_by, start_of, noted, ended, summed, noted_all, told_all, HandsOver, here, there, Tells}
+use Rattle.report.specs.Outcome.{hands, handed_by, bad_line_of, or_else, handed_over, fails, fails_later, has_bad_line, rebuilt, all_rebuilt, is_some, every_rebuilt, nothing_yet, stepped, rebuilt_by, with_result, every_by, start_of, noted, ended, summed, noted_all, told_all, HandsOver, here, there, Tells}
 
 -- ---- what was handed over
 

@@ -6,6 +6,7 @@ use crate::reason::{is_held, reason_of};
 use crate::row::say_octets;
 use crate::{layout, say};
 use capture::text::from;
+use std::io;
 
 const STATUS_COUNT: u8 = 14;
 
@@ -44,278 +45,324 @@ fn field_name(m: u32) -> usize {
     }
 }
 
-fn say_name(name: usize) {
+fn say_name(rt: &impl Print, name: usize) -> io::Result<()> {
     if name != say::NOTHING {
-        say::say(say::SPACE, 0, 0);
-        say::say(name, 0, 0);
+        say::say(rt, say::SPACE, 0, 0)?;
+        say::say(rt, name, 0, 0)?;
     }
+    Ok(())
 }
 
 // A refusal by the number that a call gave: 256 * n + m is document 01's n/m, of which m is 0 where there is none.
-pub fn say_refused(code: u32) {
+pub fn say_refused(rt: &impl Print, code: u32) -> io::Result<()> {
     let n = code / 256;
     let m = code % 256;
     if m == 0 {
-        say::say(say::REFUSED, n as u64, 0);
-        say_name(refusal_name(n));
-        return;
+        say::say(rt, say::REFUSED, n as u64, 0)?;
+        return say_name(rt, refusal_name(n));
     }
-    say::say(say::REFUSED + 1, n as u64, m as u64);
-    say_name(field_name(m));
+    say::say(rt, say::REFUSED + 1, n as u64, m as u64)?;
+    say_name(rt, field_name(m))
 }
 
 // A status by its number and its name.
-fn say_status(n: u8) {
-    say::say(say::STATUS, n as u64, 0);
-    say::say(nth(say::STATUSES, n, STATUS_COUNT), 0, 0);
+fn say_status(rt: &impl Print, n: u8) -> io::Result<()> {
+    say::say(rt, say::STATUS, n as u64, 0)?;
+    say::say(rt, nth(say::STATUSES, n, STATUS_COUNT), 0, 0)
 }
 
-fn say_flag(flag: u8, n: usize) {
+fn say_flag(rt: &impl Print, flag: u8, n: usize) -> io::Result<()> {
     if flag != 0 {
-        say::say(n, 0, 0);
+        say::say(rt, n, 0, 0)?;
     }
+    Ok(())
 }
 
 // The list of what is supported: a flag, and one for each service.
-fn say_support(list: &[u8]) {
+fn say_support(rt: &impl Print, list: &[u8]) -> io::Result<()> {
     if octet(list, 0) == 0 {
-        return;
+        return Ok(());
     }
-    say::say(say::SUPPORTED, 0, 0);
-    say_flag(octet(list, 1), say::SUPPORTED + 1);
-    say_flag(octet(list, 2), say::SUPPORTED + 2);
-    say_flag(octet(list, 3), say::SUPPORTED + 3);
-    say_flag(octet(list, 4), say::SUPPORTED + 4);
+    say::say(rt, say::SUPPORTED, 0, 0)?;
+    say_flag(rt, octet(list, 1), say::SUPPORTED + 1)?;
+    say_flag(rt, octet(list, 2), say::SUPPORTED + 2)?;
+    say_flag(rt, octet(list, 3), say::SUPPORTED + 3)?;
+    say_flag(rt, octet(list, 4), say::SUPPORTED + 4)
 }
 
 // A map: how many entries it has, how many are missing and the first of them, by the answer's own figures; then which, if any.
-fn say_map(answer: &[u8]) {
+fn say_map(rt: &impl Print, answer: &[u8]) -> io::Result<()> {
     let n = pair_at(answer, layout::ENTRIES);
     let missing = missing_in(answer);
-    say::say(say::MAP, n, 0);
-    say::say(say::MAP + 1, missing, first_missing_in(answer));
+    say::say(rt, say::MAP, n, 0)?;
+    say::say(rt, say::MAP + 1, missing, first_missing_in(answer))?;
     if missing == 0 {
-        return;
+        return Ok(());
     }
-    say::say(say::MAP + 2, 0, 0);
-    say_missing(from(answer, layout::MARKS), n as usize);
+    say::say(rt, say::MAP + 2, 0, 0)?;
+    say_missing(rt, from(answer, layout::MARKS), n as usize)
 }
 
 // A response that a call asks for.
-fn say_reply(answer: &[u8]) {
+fn say_reply(rt: &impl Print, answer: &[u8]) -> io::Result<()> {
     if octet(answer, 0) == 0 {
-        return;
+        return Ok(());
     }
-    say::say(say::RESPONSE, octet(answer, layout::TRANSACTION) as u64, 0);
-    say_status(octet(answer, layout::STATUS));
-    say_map(answer);
-    say_support(from(answer, layout::SUPPORT));
+    say::say(
+        rt,
+        say::RESPONSE,
+        octet(answer, layout::TRANSACTION) as u64,
+        0,
+    )?;
+    say_status(rt, octet(answer, layout::STATUS))?;
+    say_map(rt, answer)?;
+    say_support(rt, from(answer, layout::SUPPORT))
 }
 
 // A message that a call hands over.
-fn say_message(answer: &[u8]) {
+fn say_message(rt: &impl Print, answer: &[u8]) -> io::Result<()> {
     if octet(answer, layout::MESSAGE) != 0 {
-        say::say(say::HANDED_OVER, number_at(answer, layout::MESSAGE + 1), 0);
+        say::say(
+            rt,
+            say::HANDED_OVER,
+            number_at(answer, layout::MESSAGE + 1),
+            0,
+        )?;
     }
+    Ok(())
 }
 
 // A receiver's state.
-fn say_state(receiver: &[u8]) {
+fn say_state(rt: &impl Print, receiver: &[u8]) -> io::Result<()> {
     say::say(
+        rt,
         nth(say::STATES, octet(receiver, layout::STATE), STATE_COUNT),
         0,
         0,
-    );
+    )
 }
 
 // The state, where it is another than before.
-fn say_change(before: u8, receiver: &[u8]) {
+fn say_change(rt: &impl Print, before: u8, receiver: &[u8]) -> io::Result<()> {
     if octet(receiver, layout::STATE) != before {
-        say::say(say::NOW, 0, 0);
-        say_state(receiver);
+        say::say(rt, say::NOW, 0, 0)?;
+        say_state(rt, receiver)?;
     }
+    Ok(())
 }
 
 // What a call gave, its answer, and the state where it has changed.
-pub fn say_answer(code: u32, answer: &[u8], before: u8, receiver: &[u8]) {
+pub fn say_answer(
+    rt: &impl Print,
+    code: u32,
+    answer: &[u8],
+    before: u8,
+    receiver: &[u8],
+) -> io::Result<()> {
     if code != 0 {
-        say_refused(code);
+        say_refused(rt, code)?;
     } else {
-        say::say(say::TAKEN, 0, 0);
+        say::say(rt, say::TAKEN, 0, 0)?;
     }
-    say_reply(answer);
-    say_message(answer);
-    say_change(before, receiver);
+    say_reply(rt, answer)?;
+    say_message(rt, answer)?;
+    say_change(rt, before, receiver)
 }
 
 // A peer by kind, width and value, and a transaction, as they stand in RECEIVER.
-pub fn say_names(receiver: &[u8]) {
+pub fn say_names(rt: &impl Print, receiver: &[u8]) -> io::Result<()> {
     say::say(
+        rt,
         say::PEER,
         octet(receiver, layout::PEER_KIND) as u64,
         octet(receiver, layout::PEER_WIDTH) as u64,
-    );
-    say::say(say::PEER + 1, number_at(receiver, layout::PEER_VALUE), 0);
+    )?;
     say::say(
+        rt,
+        say::PEER + 1,
+        number_at(receiver, layout::PEER_VALUE),
+        0,
+    )?;
+    say::say(
+        rt,
         say::TRANSACTION,
         octet(receiver, layout::RECEIVER_TRANSACTION) as u64,
         0,
-    );
+    )
 }
 
 // ---- segments
 
 // A Begin's window, which is Prohibited where it brings no services.
-fn say_window(decoded: &[u8]) {
+fn say_window(rt: &impl Print, decoded: &[u8]) -> io::Result<()> {
     if octet(decoded, layout::KIND) == layout::BEGIN {
         say::say(
+            rt,
             nth(say::WINDOWS, octet(decoded, layout::WINDOW), WINDOW_COUNT),
             0,
             0,
-        );
+        )?;
     }
+    Ok(())
 }
 
 // A segment that was decoded: kind, sequence, transaction, data length, a Begin's window, the length that it states.
-pub fn say_segment(decoded: &[u8]) {
+pub fn say_segment(rt: &impl Print, decoded: &[u8]) -> io::Result<()> {
     say::say(
+        rt,
         nth(say::KINDS, octet(decoded, layout::KIND), KIND_COUNT),
         octet(decoded, layout::SEQUENCE) as u64,
         0,
-    );
+    )?;
     say::say(
+        rt,
         say::TRANSACTION,
         octet(decoded, layout::SEGMENT_TRANSACTION) as u64,
         0,
-    );
-    say::say(say::DATA, number_at(decoded, layout::DATA_LENGTH), 0);
-    say_window(decoded);
+    )?;
+    say::say(rt, say::DATA, number_at(decoded, layout::DATA_LENGTH), 0)?;
+    say_window(rt, decoded)?;
     if octet(decoded, layout::SEGMENT_STATED) != 0 {
         say::say(
+            rt,
             say::STATES_LENGTH,
             pair_at(decoded, layout::SEGMENT_STATED + 1),
             0,
-        );
+        )?;
     }
+    Ok(())
 }
 
 // The octets that a receiver has, and of how many, where a length was stated.
-fn say_so_far(receiver: &[u8]) {
+fn say_so_far(rt: &impl Print, receiver: &[u8]) -> io::Result<()> {
     let n = number_at(receiver, layout::STORED);
     if octet(receiver, layout::STATED) == 0 {
-        say::say(say::SO_FAR, n, 0);
-        return;
+        return say::say(rt, say::SO_FAR, n, 0);
     }
-    say::say(say::SO_FAR + 1, n, pair_at(receiver, layout::STATED + 1));
+    say::say(
+        rt,
+        say::SO_FAR + 1,
+        n,
+        pair_at(receiver, layout::STATED + 1),
+    )
 }
 
 // The status of a receiver that has failed, and the reason.
-fn say_failure(receiver: &[u8], form: usize, a: u64, b: u64) {
-    say_status(octet(receiver, layout::STATE + 1));
-    say::say(form, a, b);
+fn say_failure(rt: &impl Print, receiver: &[u8], form: usize, a: u64, b: u64) -> io::Result<()> {
+    say_status(rt, octet(receiver, layout::STATE + 1))?;
+    say::say(rt, form, a, b)
 }
 
-fn say_failing(before: &[u8], decoded: &[u8], receiver: &[u8]) {
+fn say_failing(rt: &impl Print, before: &[u8], decoded: &[u8], receiver: &[u8]) -> io::Result<()> {
     let r = reason_of(before, decoded, octet(receiver, layout::STATE + 1));
-    say::say(say::FAILS, 0, 0);
-    say_failure(receiver, r.form, r.a, r.b);
+    say::say(rt, say::FAILS, 0, 0)?;
+    say_failure(rt, receiver, r.form, r.a, r.b)
 }
 
 // A segment that was received: whether it is new, and whether it is taken or fails the reception.
-fn say_received(before: &[u8], decoded: &[u8], receiver: &[u8]) {
+fn say_received(rt: &impl Print, before: &[u8], decoded: &[u8], receiver: &[u8]) -> io::Result<()> {
     if is_held(before, octet(decoded, layout::SEQUENCE)) {
-        say::say(say::NEW + 1, 0, 0);
+        say::say(rt, say::NEW + 1, 0, 0)?;
     } else {
-        say::say(say::NEW, 0, 0);
+        say::say(rt, say::NEW, 0, 0)?;
     }
     if octet(receiver, layout::STATE) == layout::FAILED {
-        say_failing(before, decoded, receiver);
-        return;
+        return say_failing(rt, before, decoded, receiver);
     }
-    say::say(say::TAKEN, 0, 0);
-    say_so_far(receiver);
+    say::say(rt, say::TAKEN, 0, 0)?;
+    say_so_far(rt, receiver)
 }
 
 // A segment that was refused, with its octets.
-pub fn say_refused_segment(code: u32, before: u8, receiver: &[u8], segment: &[u8]) {
-    say_refused(code);
-    say_change(before, receiver);
-    say::say(say::OCTETS, 0, 0);
-    say_octets(segment);
+pub fn say_refused_segment(
+    rt: &impl Print,
+    code: u32,
+    before: u8,
+    receiver: &[u8],
+    segment: &[u8],
+) -> io::Result<()> {
+    say_refused(rt, code)?;
+    say_change(rt, before, receiver)?;
+    say::say(rt, say::OCTETS, 0, 0)?;
+    say_octets(rt, segment)
 }
 
 // What a receive gave and answered: before is RECEIVER before the call, decoded is DECODED of the segment.
 pub fn say_reception(
+    rt: &impl Print,
     code: u32,
     answer: &[u8],
     before: &[u8],
     decoded: &[u8],
     receiver: &[u8],
     segment: &[u8],
-) {
+) -> io::Result<()> {
     let state = octet(before, layout::STATE);
     if code != 0 {
-        say_refused_segment(code, state, receiver, segment);
-        return;
+        return say_refused_segment(rt, code, state, receiver, segment);
     }
-    say_received(before, decoded, receiver);
-    say_reply(answer);
-    say_message(answer);
-    say_change(state, receiver);
+    say_received(rt, before, decoded, receiver)?;
+    say_reply(rt, answer)?;
+    say_message(rt, answer)?;
+    say_change(rt, state, receiver)
 }
 
 // ---- results
 
-fn say_deadline(receiver: &[u8]) {
+fn say_deadline(rt: &impl Print, receiver: &[u8]) -> io::Result<()> {
     if octet(receiver, layout::DEADLINE) == 0 {
-        say::say(say::DEADLINES, 0, 0);
-        return;
+        return say::say(rt, say::DEADLINES, 0, 0);
     }
     say::say(
+        rt,
         say::DEADLINES + 1,
         number_at(receiver, layout::DEADLINE + 1),
         0,
-    );
+    )
 }
 
 // What a receiver that held these segments lacks.
-fn say_lack(receiver: &[u8], held: &[u8]) {
+fn say_lack(rt: &impl Print, receiver: &[u8], held: &[u8]) -> io::Result<()> {
     if octet(receiver, layout::END) == 0 {
-        say_open(held);
-        return;
+        return say_open(rt, held);
     }
-    say_missing(held, octet(receiver, layout::END + 1) as usize + 1);
+    say_missing(rt, held, octet(receiver, layout::END + 1) as usize + 1)
 }
 
 // The reason that was kept, as three numbers: a form and what is filled in; and the line, which follows them.
-fn say_kept(receiver: &[u8], reason: &[u8]) {
+fn say_kept(rt: &impl Print, receiver: &[u8], reason: &[u8]) -> io::Result<()> {
     say_failure(
+        rt,
         receiver,
         number_at(reason, 0) as usize,
         number_at(reason, 8),
         number_at(reason, 16),
-    );
-    say::say(say::AT_LINE, number_at(reason, 24), 0);
+    )?;
+    say::say(rt, say::AT_LINE, number_at(reason, 24), 0)
 }
 
 // Where a receiver stands that handed nothing over: its state, and why it failed; or its deadline, the segments that it last held, and those
 // that are missing.
-pub fn say_standing(receiver: &[u8], held: &[u8], reason: &[u8]) {
-    say::say(say::STANDING, 0, 0);
-    say_state(receiver);
+pub fn say_standing(
+    rt: &impl Print,
+    receiver: &[u8],
+    held: &[u8],
+    reason: &[u8],
+) -> io::Result<()> {
+    say::say(rt, say::STANDING, 0, 0)?;
+    say_state(rt, receiver)?;
     if octet(receiver, layout::STATE) == layout::FAILED {
-        say_kept(receiver, reason);
-        return;
+        return say_kept(rt, receiver, reason);
     }
-    say_deadline(receiver);
-    say::say(say::LAST_HELD, 0, 0);
-    say_marks(held);
-    say::say(say::MISSING, 0, 0);
-    say_lack(receiver, held);
+    say_deadline(rt, receiver)?;
+    say::say(rt, say::LAST_HELD, 0, 0)?;
+    say_marks(rt, held)?;
+    say::say(rt, say::MISSING, 0, 0)?;
+    say_lack(rt, receiver, held)
 }
 
 // The failure of a receiver that had handed a record over.
-pub fn say_failed_after(receiver: &[u8], reason: &[u8]) {
-    say::say(say::BUT_FAILED, 0, 0);
-    say_kept(receiver, reason);
+pub fn say_failed_after(rt: &impl Print, receiver: &[u8], reason: &[u8]) -> io::Result<()> {
+    say::say(rt, say::BUT_FAILED, 0, 0)?;
+    say_kept(rt, receiver, reason)
 }

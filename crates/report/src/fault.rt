@@ -2,6 +2,7 @@
 use crate::say;
 use capture::form::{Form, Keyword, WordFault};
 use capture::octet::OctetFault;
+use std::io;
 
 // A count from 1 of what is counted from 0.
 fn ordinal(i: usize) -> u64 {
@@ -71,12 +72,12 @@ fn octet_fault_number(f: OctetFault) -> usize {
 }
 
 // What is wrong with word i.
-pub fn say_word_fault(f: WordFault, i: usize) {
-    say::say(fault_number(f), ordinal(i), 0);
-    say::say(form_of(f), 0, 0);
+pub fn say_word_fault(rt: &impl Print, f: WordFault, i: usize) -> io::Result<()> {
+    say::say(rt, fault_number(f), ordinal(i), 0)?;
+    say::say(rt, form_of(f), 0, 0)
 }
 
 // What is wrong with the octets of a line, at character i.
-pub fn say_octet_fault(f: OctetFault, i: usize) {
-    say::say(octet_fault_number(f), ordinal(i), 0);
+pub fn say_octet_fault(rt: &impl Print, f: OctetFault, i: usize) -> io::Result<()> {
+    say::say(rt, octet_fault_number(f), ordinal(i), 0)
 }

@@ -1,5 +1,7 @@
 // What the bench program prints, from numbers and octets (docs/EXPORTS.md), and the rule by which it says that a record was rebuilt. No
-// contract can say what is printed; every call is total.
+// contract can say what is printed; every call is total, and gives an error only where a write fails.
+#![tactic(auto)]
+
 pub mod answer;
 pub mod fault;
 pub mod layout;

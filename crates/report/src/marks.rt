@@ -3,6 +3,7 @@ ghost use Rattle.std.specs.Prelude.{◌≤◌};
 
 use crate::layout::octet;
 use crate::say;
+use std::io;
 
 pub const MARKS_OCTETS: usize = 32;
 
@@ -34,43 +35,42 @@ pub fn top(marks: &[u8]) -> usize
     n
 }
 
-fn say_run(a: usize, b: usize) {
+fn say_run(rt: &impl Print, a: usize, b: usize) -> io::Result<()> {
     if a == b {
-        say::say(say::RUNS + 1, a as u64, 0);
-        return;
+        return say::say(rt, say::RUNS + 1, a as u64, 0);
     }
-    say::say(say::RUNS, a as u64, b as u64);
+    say::say(rt, say::RUNS, a as u64, b as u64)
 }
 
 // The numbers below n whose mark is set, or is not, as numbers and ranges of numbers.
-fn say_runs(marks: &[u8], n: usize, set: bool) {
+fn say_runs(rt: &impl Print, marks: &[u8], n: usize, set: bool) -> io::Result<()> {
     let mut a = find(marks, n, 0, set);
     if n <= a {
-        say::say(say::NONE, 0, 0);
+        say::say(rt, say::NONE, 0, 0)?;
     }
     while a < n {
         let e = find(marks, n, a + 1, !set);
-        say_run(a, e - 1);
+        say_run(rt, a, e - 1)?;
         a = find(marks, n, e, set);
     }
+    Ok(())
 }
 
-pub fn say_marks(marks: &[u8]) {
-    say_runs(marks, SEQUENCES, true);
+pub fn say_marks(rt: &impl Print, marks: &[u8]) -> io::Result<()> {
+    say_runs(rt, marks, SEQUENCES, true)
 }
 
 // What is missing of n marks.
-pub fn say_missing(marks: &[u8], n: usize) {
-    say_runs(marks, n, false);
+pub fn say_missing(rt: &impl Print, marks: &[u8], n: usize) -> io::Result<()> {
+    say_runs(rt, marks, n, false)
 }
 
 // What is missing up to the highest mark, and what may follow it.
-pub fn say_open(marks: &[u8]) {
+pub fn say_open(rt: &impl Print, marks: &[u8]) -> io::Result<()> {
     let n = top(marks);
     if n == 0 {
-        say::say(say::ALL, 0, 0);
-        return;
+        return say::say(rt, say::ALL, 0, 0);
     }
-    say_missing(marks, n - 1);
-    say::say(say::FOLLOWING, (n - 1) as u64, 0);
+    say_missing(rt, marks, n - 1)?;
+    say::say(rt, say::FOLLOWING, (n - 1) as u64, 0)
 }

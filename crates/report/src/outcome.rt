@@ -6,7 +6,7 @@ use crate::layout;
 use crate::layout::{number_at, octet, pair_at};
 
 // What a call handed over: nothing, or a record of so many octets.
-#[derive(Drop)]
+#[derive(Clone, Copy)]
 pub enum Handed {
     Nothing,
     Octets(u64),
@@ -14,14 +14,14 @@ pub enum Handed {
 
 // What happened in a section: a call, with what it handed over and whether the receiver is Failed after it; or a line that was refused for
 // its form.
-#[derive(Drop)]
+#[derive(Clone, Copy)]
 pub enum Event {
     Call(Handed, bool),
     BadLine,
 }
 
 // A section so far: what was handed over, whether a later call left the receiver Failed, and whether a line was refused for its form.
-#[derive(Drop)]
+#[derive(Clone, Copy)]
 pub struct Summary {
     pub handed: Handed,
     pub failed: bool,
@@ -29,13 +29,13 @@ pub struct Summary {
 }
 
 // The sections that have ended: whether there is one, and whether all were rebuilt.
-#[derive(Drop)]
+#[derive(Clone, Copy)]
 pub struct Results {
     pub any: bool,
     pub all: bool,
 }
 
-#[derive(Drop)]
+#[derive(Clone, Copy)]
 pub struct Told {
     pub section: Summary,
     pub results: Results,

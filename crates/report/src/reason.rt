@@ -23,7 +23,7 @@ const MULTIPLE_SERVICES_UNSUPPORTED: u8 = 13;
 const LAST_SEQUENCE: u8 = 255;
 
 // A form of crate::say, and the numbers that are filled in.
-#[derive(Drop)]
+#[derive(Clone, Copy)]
 pub struct Reason {
     pub form: usize,
     pub a: u64,

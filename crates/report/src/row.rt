@@ -2,6 +2,8 @@
 use crate::layout::octet;
 use crate::say::{end_line, past, print, put};
 use capture::text::front;
+use std::fmt::{InlineText, Radix};
+use std::io;
 
 const OFFSET_DIGITS: usize = 8;
 
@@ -14,10 +16,12 @@ const CHARACTERS: usize = 60;
 
 const ROW_TEXT: usize = 80;
 
+// The most hexadecimal digits of a number.
+const DIGITS: usize = 16;
+
 fn hex(out: &mut [u8], at: usize, n: u64, width: usize) -> usize {
-    let mut digits = [0u8; 16];
-    let k = io::hex(n, width, &mut digits);
-    put(out, at, &digits[..k])
+    let digits = InlineText::<DIGITS>::of(n.hex().zero().width(width));
+    put(out, at, digits.as_str().as_bytes())
 }
 
 // An octet as a character: itself where it is one of ASCII that prints.
@@ -51,25 +55,24 @@ fn put_octets(out: &mut [u8], s: &[u8]) -> usize {
 }
 
 // The offset of its first octet, its octets, and their characters.
-pub fn say_row(offset: usize, s: &[u8]) {
+pub fn say_row(rt: &impl Print, offset: usize, s: &[u8]) -> io::Result<()> {
     let mut text = [b' '; ROW_TEXT];
     hex(&mut text, 0, offset as u64, OFFSET_DIGITS);
     let n = put_octets(&mut text, s);
-    print(front(&text, n));
-    end_line();
+    print(rt, front(&text, n))?;
+    end_line(rt)
 }
 
-fn say_octet(x: u8) {
+fn say_octet(rt: &impl Print, x: u8) -> io::Result<()> {
     let mut text = [b' '; 3];
     hex(&mut text, 1, x as u64, OCTET_DIGITS);
-    print(&text);
+    print(rt, &text)
 }
 
 // Octets in hexadecimal on one line, each with a space before it.
-pub fn say_octets(s: &[u8]) {
-    let mut i: usize = 0;
-    while i < s.len() {
-        say_octet(octet(s, i));
-        i += 1;
+pub fn say_octets(rt: &impl Print, s: &[u8]) -> io::Result<()> {
+    for x in s {
+        say_octet(rt, *x)?;
     }
+    Ok(())
 }

@@ -4,7 +4,8 @@ ghost use Rattle.std.proofs.lemmas.List.Edits.{sets};
 ghost use Rattle.report.specs.Writing.{past_by};
 
 use capture::text::{front, word_at};
-use libc::STDOUT_FILENO;
+use std::fmt::InlineText;
+use std::io;
 
 // The number of each form, or of the first of several, in the order of the words in say.
 
@@ -150,8 +151,11 @@ pub const NOTHING: usize = 255;
 // The longest text of a form.
 const TEXT: usize = 256;
 
-pub fn print(text: &[u8]) {
-    io::write_all(STDOUT_FILENO, text);
+// The most decimal digits of a number.
+const DIGITS: usize = 20;
+
+pub fn print(rt: &impl Print, text: &[u8]) -> io::Result<()> {
+    rt.write_all(text)
 }
 
 // The place n octets past a place, as far as numbers go.
@@ -173,9 +177,7 @@ pub fn put(out: &mut [u8], at: usize, src: &[u8]) -> usize
 }
 
 fn number(out: &mut [u8], at: usize, n: u64) -> usize {
-    let mut digits = [0u8; 20];
-    let k = io::decimal(n, &mut digits);
-    put(out, at, &digits[..k])
+    put(out, at, InlineText::<DIGITS>::of(n).as_str().as_bytes())
 }
 
 // What a character of a form becomes: % the next number, ~ an s unless the last was 1, _ a space.
@@ -217,15 +219,16 @@ fn fill(out: &mut [u8], form: &[u8], a: u64, b: u64) -> usize {
     at
 }
 
-fn say_text(form: &[u8], a: u64, b: u64) {
+fn say_text(rt: &impl Print, form: &[u8], a: u64, b: u64) -> io::Result<()> {
     let mut text = [0u8; TEXT];
     let n = fill(&mut text, form, a, b);
-    print(front(&text, n));
+    print(rt, front(&text, n))
 }
 
 // Prints a form.
-pub fn say(n: usize, a: u64, b: u64) {
+pub fn say(rt: &impl Print, n: usize, a: u64, b: u64) -> io::Result<()> {
     say_text(
+        rt,
         word_at(
             b"line_%_at_% ,_%_ms_after_the_last ,_%_ms_before_the_last :_ bench:_advance_at_%,_before_line_% line_%_refused:_ \
             section_%,_from_line_% receiver_of _peer_%_% _% ,_transaction_% ,_version_%,_profile_% ,_maximum_% :_made advance cancel \
@@ -269,9 +272,9 @@ pub fn say(n: usize, a: u64, b: u64) {
         ),
         a,
         b,
-    );
+    )
 }
 
-pub fn end_line() {
-    print(b"\n");
+pub fn end_line(rt: &impl Print) -> io::Result<()> {
+    print(rt, b"\n")
 }

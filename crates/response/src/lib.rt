@@ -1,4 +1,6 @@
 // Responses as records: l3/tsar/response.rs of the source, without its wire codec.
+#![tactic(auto)]
+
 ghost use Rattle.std.specs.Prelude.{◌≡◌, ◌&&◌, suc, ◌≤◌};
 ghost use Rattle.words.specs.Marks.{marked};
 ghost use Rattle.tsar.specs.Rows.{refusal};
@@ -23,7 +25,7 @@ const TRANSACTION_MASK: u8 = 7;
 // The number of MultipleServicesUnsupported, the one status that a support list goes with.
 const SUPPORT_STATUS: u8 = 13;
 
-#[derive(Drop)]
+#[derive(Clone, Copy)]
 pub enum Status {
     Continuing,
     InterSegmentTimeout,
@@ -42,35 +44,35 @@ pub enum Status {
 }
 
 // The entries of a map: entry i is mark i of the words, for i below bit_count; marks from there on are not entries.
-#[derive(Drop)]
+#[derive(Clone, Copy)]
 pub struct AcknowledgmentMap {
     pub received: Words,
     pub bit_count: u16,
 }
 
 // How many entries of a map are missing, and the first of them: 256 where there is none.
-#[derive(Drop)]
+#[derive(Clone, Copy)]
 pub struct Missing {
     pub count: u16,
     pub first: u16,
 }
 
 // A map with the figures of its missing entries: what every builder of a map gives.
-#[derive(Drop)]
+#[derive(Clone, Copy)]
 pub struct BuiltMap {
     pub map: AcknowledgmentMap,
     pub missing: Missing,
 }
 
 // What a map says of a sequence number: the source's Option<bool>.
-#[derive(Drop)]
+#[derive(Clone, Copy)]
 pub enum Acknowledged {
     Unreported,
     Missing,
     Received,
 }
 
-#[derive(Drop)]
+#[derive(Clone, Copy)]
 pub struct OptionalServicesSupport {
     pub compression: bool,
     pub encryption: bool,
@@ -79,13 +81,13 @@ pub struct OptionalServicesSupport {
 }
 
 // The support list of a response: the source's Option<OptionalServicesSupport>.
-#[derive(Drop)]
+#[derive(Clone, Copy)]
 pub enum SupportList {
     Absent,
     Listed(OptionalServicesSupport),
 }
 
-#[derive(Drop)]
+#[derive(Clone, Copy)]
 pub struct Response {
     pub transaction_id: u8,
     pub status: Status,
@@ -94,7 +96,7 @@ pub struct Response {
 }
 
 // What AcknowledgmentMap::try_new gives.
-#[derive(Drop)]
+#[derive(Clone, Copy)]
 pub enum MapAnswer {
     Map(BuiltMap),
     Refused(Error),

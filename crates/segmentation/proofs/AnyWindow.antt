@@ -22,8 +22,10 @@ use Rattle.segmentation.specs.declared.SegmentedMessage.{SegmentedMessage}
 use Rattle.segmentation.specs.Plan.{segmented, prohibited, services_for, planned_length}
 use Rattle.segmentation.specs.Cutting.{is_begin, plain_kind}
 use Rattle.segmentation.specs.Frozen.{Proposal, head_at, data_before, place_rows, data_rows, segment_rows, segments_from, frozen_refusal}
-use Rattle.segmentation.specs.Planned.{Spread, planning, plan_window, plan_at_least}
-use Rattle.segmentation.specs.Laws.{proposal_of, planned_heads, planned_head_lem, plan_frozen}
+use Rattle.segmentation.specs.Planned.{Spread, planning}
+use Rattle.segmentation.proofs.Planned.{plan_window, plan_at_least}
+use Rattle.segmentation.specs.Laws.{proposal_of, planned_heads}
+use Rattle.segmentation.proofs.Laws.{planned_head_lem, plan_frozen}
 use Rattle.segmentation.proofs.Retired.{window_asked}
 
 -- a segment whose services, where it spells them out, ask for the window w

@@ -1,11 +1,11 @@
--- What plan_message's code asks: that its sums fit, and planMessage as the code goes through it. Assumes nothing.
+-- What plan_message's code asks: that its sums fit, and plan_message as the code goes through it. Assumes nothing.
 use Prim.Native.Nat.{ℕ, ◌+◌, ◌-◌, ◌/◌, ◌≤◌, ◌<◌}
 use mathlib.Core.Path.{◌≡◌, refl, ap, sym, ◌∙◌}
 use mathlib.Core.Bool.{Bool, true, false, cond}
 use mathlib.Core.List.{List, [], ◌∷◌, ◌++◌, map}
 use mathlib.Core.Option.{Option, none, some}
 use native.Mathlib.Omega.{arith}
-use native.Mathlib.Nat.{add-div_right, div-le_self}
+use native.Mathlib.Nat.{add-div_right}
 use lib.Dec.{leb, ltb}
 use Rattle.tsar.specs.Rows.{Refusal, refusal, first_of}
 use Rattle.tsar.specs.Writing.{codec_rows}
@@ -36,7 +36,7 @@ codec_first (c ∷ cs) ds d = go c.0 (codec_first cs ds d)
     go true e = refl
     go false e = e
 
--- planMessage step by step
+-- plan_message step by step
 pub plan_steps : (n budget transaction : ℕ) (w : AcknowledgmentWindow) (version ceiling : ℕ) → plan_message n budget transaction w version ceiling ≡ cond (ltb ceiling budget) (refused (20, 0)) (cond (leb n budget) unsegmented (cond (is_exceptions w) (refused (25, 0)) (after_codec (refusal (codec_rows version (bare_begin transaction w) 0)) (first_of (size_rows n budget w) (segmented (plan_of n budget transaction w))))))
 unfolding plan_message
 plan_steps n budget transaction w version ceiling =

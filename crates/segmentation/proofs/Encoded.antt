@@ -19,7 +19,8 @@ use Rattle.segmentation.specs.declared.SegmentedMessage.{SegmentedMessage}
 use Rattle.segmentation.specs.declared.PlannedPart.{PlannedPart}
 use Rattle.segmentation.specs.declared.PlannedSegment.TheVariants.{Segment as Planned}
 use Rattle.segmentation.specs.Plan.{segmented, planned_head, planned_whole, part_start, part_length, segment_at}
-use Rattle.segmentation.specs.Planned.{Spread, planning, plan_budget, plan_codec, plan_range, plan_segment}
+use Rattle.segmentation.specs.Planned.{Spread, planning}
+use Rattle.segmentation.proofs.Planned.{plan_budget, plan_codec, plan_range, plan_segment}
 use Rattle.segmentation.specs.Frozen.{Proposal, frozen_refusal, frozen_of, frozen_segment_at, proposed, head_at, data_before}
 use Rattle.segmentation.specs.Accepted.{frozen_acceptable, frozen_segment, cut_within}
 

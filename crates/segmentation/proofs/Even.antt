@@ -1,7 +1,7 @@
 -- Document 02, 2026-02, of the even planner: 'with the Begin and the segment count that plan_message gives, but with the remaining octets spread so
 -- that later segments differ by at most one octet, the longer ones first', and 'for any message and budget the two planners refuse alike'. Lengths
 -- are those that the public call gives for a segment. What both planners have in common (a true cutting, the budget, the codec, the frozen check)
--- is in specs/Planned, specs/Laws and proofs/Encoded, by one argument that says which of the two. Assumes nothing.
+-- is in Planned, Laws and Encoded, by one argument that says which of the two. Assumes nothing.
 use Prim.Native.Nat.{ℕ, zero, suc, ◌+◌, ◌-◌, ◌*◌, ◌≤◌, ◌<◌, min}
 use mathlib.Core.Path.{◌≡◌, refl, sym, ap, ◌∙◌, subst}
 use mathlib.Core.List.{List, [], ◌∷◌}
@@ -16,7 +16,8 @@ use Rattle.segmentation.specs.declared.PlannedSegment.{PlannedSegment}
 use Rattle.segmentation.specs.declared.PlannedSegment.TheVariants.{NoSegment, Segment as Planned}
 use Rattle.segmentation.specs.Plan.{Planning, unsegmented, refused, segmented, plan_message, even_message, plan_of, share_of, evened, spread, prohibited, segment_count, begin_data, later_capacity_of, longer, planned_head, part_length, segment_at}
 use Rattle.segmentation.specs.Capacities.{whole_part}
-use Rattle.segmentation.specs.Planned.{full, even, even_of, Plannable, later, share, over, shared, none_longer, many, share_some, begin_below, plan_is, plan_arguments, plan_count, plan_at_least, plan_segment, plan_next}
+use Rattle.segmentation.specs.Planned.{full, even, even_of, Plannable, later, share, over}
+use Rattle.segmentation.proofs.Planned.{shared, none_longer, many, share_some, begin_below, plan_is, plan_arguments, plan_count, plan_at_least, plan_segment, plan_next}
 
 -- ---- refusing alike
 

@@ -1,3 +1,5 @@
+pub mod Planned
+pub mod Laws
 pub mod Capacity
 pub mod Encoded
 pub mod Even

@@ -1,13 +1,10 @@
 -- The kind that stands at a place, as the code finds it: by the kind, where the definition goes by the place; how long a kind's header is; and what
 -- the code's `else` knows of a kind that is no Begin. Assumes nothing.
 use Prim.Native.Nat.{ℕ, zero, suc, ◌+◌, ◌≤◌}
-use mathlib.Core.Path.{◌≡◌, refl, sym, ap}
+use mathlib.Core.Path.{◌≡◌, refl, sym}
 use mathlib.Core.Bool.{Bool, true, false, cond, not}
 use native.Mathlib.Numerals.{add-one}
 use native.Mathlib.Omega.{arith}
-use mathlib.Core.List.{[], ◌∷◌}
-use denote.Enum.Declared.{tag_of}
-use types.Run.{OneOf, miss}
 use lib.Dec.{eqb}
 use borrow.Author.Tests.{ne_eqb}
 use Rattle.tsar.specs.Writing.{header_octets, length_octets, services_octets, crc_octets}
@@ -19,7 +16,6 @@ use Rattle.tsar.specs.declared.MessageCrc.{MessageCrc}
 use Rattle.tsar.specs.declared.MessageCrc.TheVariants as crc
 use Rattle.tsar.specs.declared.SegmentKind.{SegmentKind}
 use Rattle.tsar.specs.declared.SegmentKind.TheVariants as kind'
-use Rattle.tsar.specs.contracts.SegmentKind.{the_type}
 use Rattle.segmentation.specs.Cutting.{is_begin}
 use Rattle.segmentation.specs.Frozen.{placed}
 
@@ -71,7 +67,7 @@ header_small (kind'.Continue n) = omega (arith, length_small n)
 header_small (kind'.End n c) = omega (arith, length_small n, crc_small c)
 
 -- what the else of `let SegmentKind::Begin { .. } = kind else` knows
-pub no_begin : (k : SegmentKind) → OneOf (1 ∷ 2 ∷ []) (tag_of the_type k) → is_begin k ≡ false
-no_begin (kind'.Begin n s) o = absurd (miss (1 ∷ 2 ∷ []) 0 tt o)
+pub no_begin : (k : SegmentKind) → ((n : MessageLength) (s : Services) → k ≡ kind'.Begin n s → ⊥) → is_begin k ≡ false
+no_begin (kind'.Begin n s) o = absurd (o n s refl)
 no_begin (kind'.Continue n) o = refl
 no_begin (kind'.End n c) o = refl

@@ -26,7 +26,8 @@ use Rattle.tsar.specs.declared.SegmentKind.TheVariants as kind'
 use Rattle.segmentation.specs.declared.SegmentedMessage.{SegmentedMessage}
 use Rattle.segmentation.specs.Plan.{Planning, unsegmented, refused, segmented, refuses, bare_begin, size_rows, plan_of, plan_message, spread, prohibited, is_exceptions, services_for, planned_kind}
 use Rattle.segmentation.specs.Frozen.{Proposal, services_of, no_head, data_before, segments_from, frozen_refusal, frozen_of}
-use Rattle.segmentation.specs.Planned.{Spread, full, even, planning, plan_arguments, plan_window}
+use Rattle.segmentation.specs.Planned.{Spread, full, even, planning}
+use Rattle.segmentation.proofs.Planned.{plan_arguments, plan_window}
 
 -- ---- the window
 

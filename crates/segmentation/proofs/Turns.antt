@@ -1,9 +1,9 @@
 -- The frozen check as its code goes through it: one turn of the loop a segment, first its head and then its data; and what the whole answers.
 -- Assumes nothing.
-use Prim.Native.Nat.{ℕ, zero, suc, ◌+◌, ◌-◌, ◌≤◌, ◌<◌}
+use Prim.Native.Nat.{ℕ, zero, suc, ◌+◌, ◌-◌, ◌<◌}
 use mathlib.Core.Path.{◌≡◌, refl, sym, ap, ◌∙◌}
 use mathlib.Core.List.{List, [], ◌∷◌, ◌++◌}
-use mathlib.Core.Bool.{Bool, true, false, cond, not, ◌&&◌, ◌||◌, true≢false}
+use mathlib.Core.Bool.{Bool, true, false, not, ◌&&◌, ◌||◌, true≢false}
 use mathlib.Core.Option.{Option, none, some}
 use native.Mathlib.Numerals.{add-one}
 use native.Mathlib.Omega.{arith}
@@ -12,7 +12,7 @@ use lib.Dec.{eqb, ltb}
 use Rattle.tsar.specs.Rows.{Refusal, refusal, or_else, refusal_append}
 use Rattle.tsar.specs.Writing.{codec_rows}
 use Rattle.tsar.specs.declared.SegmentHead.{SegmentHead}
-use Rattle.segmentation.specs.Frozen.{Proposal, Checked, head_at, data_before, place_rows, cuts_here, data_rows, segment_rows, segments_from, frozen_rows, frozen_refusal, frozen_of, no_plan, checked_as, try_from_frozen}
+use Rattle.segmentation.specs.Frozen.{Proposal, head_at, data_before, place_rows, cuts_here, data_rows, segment_rows, segments_from, frozen_rows, frozen_refusal, frozen_of, no_plan, checked_as, try_from_frozen}
 
 -- ---- one segment
 

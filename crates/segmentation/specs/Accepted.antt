@@ -1,11 +1,11 @@
 -- What the frozen check accepts, whoever proposed it: exactly the true cuttings of the message whose segments the codec writes and the budget
 -- holds. Assumes nothing.
-use Rattle.std.specs.Prelude.{ℕ, zero, suc, ◌+◌, ◌-◌, ◌≤◌, ◌<◌, ◌≡◌, refl, List, [], ◌∷◌, ◌++◌, Bool, true, false, cond, not, ◌||◌, ◌↔◌, length, take, drop, eqb, ltb}
-use Rattle.std.proofs.Common.{sym, ap, ap₂, ◌∙◌, subst, true≢false, ⊎_elim, arith, zero-add, add-zero, add-suc, suc-add, length-take, take_all, ltb-true, ltb-false, eqb-true, eq-eqb, ne_eqb, le-ltb}
+use Rattle.std.specs.Prelude.{ℕ, zero, suc, ◌+◌, ◌≤◌, ◌<◌, ◌≡◌, refl, List, [], ◌∷◌, Bool, true, false, cond, not, ◌||◌, ◌↔◌, length, take, drop, eqb, ltb}
+use Rattle.std.proofs.Common.{sym, ap, ap₂, ◌∙◌, subst, true≢false, ⊎_elim, arith, zero-add, add-zero, add-suc, suc-add, length-take, take_all, ltb-false, eqb-true, eq-eqb, ne_eqb, le-ltb}
 use Rattle.std.proofs.Math.Option.{Option, none, some}
-use Rattle.std.proofs.lemmas.Bool.{eqb-false, not-false, not-true}
+use Rattle.std.proofs.lemmas.Bool.{eqb-false, not-false}
 use Rattle.octets.specs.Laws.{le_or_lt}
-use Rattle.octets.specs.Octets.{same_octets, same_true, same_eq}
+use Rattle.octets.specs.Octets.{same_true, same_eq}
 use Rattle.tsar.specs.Rows.{Refusal, refusal, test, or_else, refusal_none, refusal_pass, refusal_append, AllFalse}
 use Rattle.tsar.specs.Writing.{codec_rows, header_octets, length_in}
 use Rattle.tsar.specs.Layout.{WholeSegment, whole}
@@ -13,7 +13,7 @@ use Rattle.tsar.specs.declared.SegmentKind.{SegmentKind}
 use Rattle.tsar.specs.declared.SegmentHead.{SegmentHead}
 use Rattle.segmentation.specs.declared.PlannedSegment.{PlannedSegment}
 use Rattle.segmentation.specs.declared.PlannedSegment.TheVariants.{Segment as Planned}
-use Rattle.segmentation.specs.Cutting.{Cutting, join_to, is_begin, is_continue, is_end, plain_kind, states_other}
+use Rattle.segmentation.specs.Cutting.{Cutting, join_to, is_continue, is_end, plain_kind, states_other}
 use Rattle.segmentation.specs.Frozen.{Proposal, proposed, head_at, data_before, placed, data_rows, segment_rows, segments_from, frozen_rows, frozen_refusal, kept_heads, frozen_of, frozen_segment_at}
 use Rattle.segmentation.specs.Joined.{join_cong, parts_join, cutting_cong}
 use Rattle.segmentation.specs.Heads.{before_zero, before_suc, before_mono, before_cong, kept_head, kept_before, segment_some}

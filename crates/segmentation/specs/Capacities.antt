@@ -1,5 +1,5 @@
 -- A plan's record whose capacities and count fit together: where its parts begin and end, and of what kinds its segments are. Assumes nothing.
-use Rattle.std.specs.Prelude.{ℕ, zero, suc, ◌+◌, ◌-◌, ◌*◌, ◌/◌, ◌%◌, ◌≤◌, ◌<◌, min, ◌≡◌, refl, List, Bool, true, false, cond, not, ◌&&◌, ◌⊎◌, length, take, drop, eqb, leb}
+use Rattle.std.specs.Prelude.{ℕ, zero, suc, ◌+◌, ◌-◌, ◌*◌, ◌≤◌, ◌<◌, min, ◌≡◌, refl, List, Bool, true, false, cond, not, ◌&&◌, ◌⊎◌, length, take, drop, eqb, leb}
 use Rattle.std.proofs.Common.{sym, ◌∙◌, div-add-mod', mod-lt, le-div_iff_mul-le, leb-true, eq-eqb, ne_eqb, le-leb, le-ltb, lt-ltb}
 use Rattle.std.proofs.Math.Path.{ap}
 use Rattle.std.proofs.Math.Logic.{inl, inr, ⊎_elim}

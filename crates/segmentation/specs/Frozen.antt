@@ -1,11 +1,10 @@
 -- What try_from_frozen answers: document 01, 'Port order' 2, the frozen order, and the plan that it gives.
-use Rattle.std.specs.Prelude.{ℕ, zero, suc, ◌+◌, ◌-◌, List, [], ◌∷◌, ◌++◌, Bool, true, false, cond, not, ◌&&◌, ◌||◌, length, get_or, take, drop, replicate, eqb, leb, ltb}
+use Rattle.std.specs.Prelude.{ℕ, zero, suc, ◌+◌, ◌-◌, List, [], ◌∷◌, ◌++◌, Bool, cond, not, ◌&&◌, ◌||◌, length, get_or, take, drop, replicate, eqb, leb, ltb}
 use Rattle.std.proofs.Math.Option.{Option, none, some}
 use Rattle.octets.specs.Octets.{same_octets}
 use Rattle.tsar.specs.Rows.{Refusal, refusal, or_else}
-use Rattle.tsar.specs.Layout.{WholeSegment, whole, written}
+use Rattle.tsar.specs.Layout.{WholeSegment, whole}
 use Rattle.tsar.specs.Writing.{codec_rows, header_octets, length_in}
-use Rattle.tsar.specs.declared.AcknowledgmentWindow.{AcknowledgmentWindow}
 use Rattle.tsar.specs.declared.AcknowledgmentWindow.TheVariants.{Prohibited}
 use Rattle.tsar.specs.declared.MessageLength.TheVariants as len
 use Rattle.tsar.specs.declared.Services.{Services}

@@ -1,5 +1,5 @@
 -- Laws of a train's heads: where the data of each begin, and the heads that a plan keeps. Assumes nothing.
-use Rattle.std.specs.Prelude.{ℕ, zero, suc, ◌+◌, ◌-◌, ◌≤◌, ◌<◌, min, ◌≡◌, refl, Bool, true, false, cond, ◌&&◌, List, [], ◌∷◌, ◌++◌, length, get_or, take, drop, set, replicate, leb, ltb}
+use Rattle.std.specs.Prelude.{ℕ, zero, suc, ◌+◌, ◌-◌, ◌≤◌, ◌<◌, ◌≡◌, refl, Bool, true, false, cond, ◌&&◌, List, [], ◌∷◌, ◌++◌, length, get_or, take, drop, set, replicate, leb, ltb}
 use Rattle.std.proofs.Common.{sym, ap, ap₂, ◌∙◌, ⊎_elim, append_assoc, append-nil, arith, add-zero, add-suc, length-take, length-append, take-append-drop, drop_of_length-le, get_or-take, get_or-append-add, take_all, drop-cons, leb-true, leb-false, le-leb, lt-ltb}
 use Rattle.std.proofs.lemmas.List.{length-replicate, replicate-append-replicate, set_at}
 use Rattle.std.proofs.Math.ListN.{get_or-append, get_or-eq_default}
@@ -10,7 +10,7 @@ use Rattle.tsar.specs.declared.SegmentHead.{SegmentHead}
 use Rattle.segmentation.specs.declared.FrozenMessage.{FrozenMessage}
 use Rattle.segmentation.specs.declared.PlannedSegment.TheVariants.{NoSegment, Segment as Planned}
 use Rattle.segmentation.specs.declared.DataStart.TheVariants.{At, Past}
-use Rattle.segmentation.specs.Frozen.{no_head, head_at, data_before, start_within, kept_heads, has_head, frozen_segment_at}
+use Rattle.segmentation.specs.Frozen.{no_head, head_at, data_before, start_within, kept_heads, frozen_segment_at}
 
 -- ---- where data begin
 

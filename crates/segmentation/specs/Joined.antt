@@ -1,10 +1,9 @@
--- Laws of `joinTo`, the data of a train's segments in order: parts of a message that lie one behind the other join to its front; and that a cutting
+-- Laws of `join_to`, the data of a train's segments in order: parts of a message that lie one behind the other join to its front; and that a cutting
 -- is one of its segments alone. Assumes nothing.
-use Rattle.std.specs.Prelude.{ℕ, zero, suc, ◌+◌, ◌≤◌, ◌<◌, ◌≡◌, refl, List, [], ◌∷◌, ◌++◌, length, take, drop}
+use Rattle.std.specs.Prelude.{ℕ, zero, suc, ◌+◌, ◌<◌, ◌≡◌, refl, List, ◌++◌, length, take, drop}
 use Rattle.std.proofs.Common.{sym, ap, ap₂, ◌∙◌, arith, take-add, take_all}
-use Rattle.tsar.specs.Writing.{length_in}
 use Rattle.tsar.specs.Layout.{WholeSegment}
-use Rattle.segmentation.specs.Cutting.{Cutting, join_to, is_begin, is_continue, is_end, plain_kind, states_other}
+use Rattle.segmentation.specs.Cutting.{Cutting, join_to}
 
 -- equal data join to the same
 pub join_cong : (n : ℕ) (f g : ℕ → List ℕ) → ((i : ℕ) → i < n → f i ≡ g i) → join_to n f ≡ join_to n g

@@ -5,7 +5,7 @@ pub mod Frozen
 pub mod Joined
 pub mod Heads
 pub mod Capacities
-pub mod Planned
 pub mod Accepted
 pub mod Refused
+pub mod Planned
 pub mod Laws

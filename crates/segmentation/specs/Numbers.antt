@@ -1,5 +1,4 @@
 -- Document 01's numbers, 'Refusals by what is returned': 20 to 24, 25 of change request 2026-09, and the codec's own.
-use Rattle.std.specs.Prelude.{ℕ}
 use Rattle.tsar.specs.Rows.{Refusal}
 use Rattle.tsar.specs.Numbers.{number}
 use Rattle.segmentation.specs.declared.PlanningError.{PlanningError}

@@ -1,14 +1,12 @@
 -- What plan_message answers: document 01's formulas, 'Port order' 2, and its refusals in order; what the even planner answers: document 02, 2026-02;
 -- and segment i of a plan of either.
-use Rattle.std.specs.Prelude.{ℕ, zero, suc, ◌+◌, ◌-◌, ◌*◌, ◌/◌, ◌≤◌, ◌<◌, min, List, [], ◌∷◌, ◌++◌, map, Bool, true, false, cond, not, ◌&&◌, length, take, drop, eqb, leb, ltb}
-use Rattle.std.proofs.Math.Option.{Option, none, some}
+use Rattle.std.specs.Prelude.{ℕ, zero, suc, ◌+◌, ◌-◌, ◌*◌, ◌/◌, ◌≤◌, ◌<◌, min, List, [], ◌∷◌, ◌++◌, map, Bool, true, false, cond, ◌&&◌, take, drop, eqb, leb, ltb}
 use Rattle.tsar.specs.Rows.{Refusal, first_of}
 pub use Rattle.tsar.specs.Kinds.{prohibited, is_exceptions}
 use Rattle.tsar.specs.Layout.{WholeSegment, whole}
 use Rattle.tsar.specs.Writing.{codec_rows}
 use Rattle.tsar.specs.declared.Compression.TheVariants as compression
 use Rattle.tsar.specs.declared.AcknowledgmentWindow.{AcknowledgmentWindow}
-use Rattle.tsar.specs.declared.AcknowledgmentWindow.TheVariants as window
 use Rattle.tsar.specs.declared.CrcStatus.TheVariants as status
 use Rattle.tsar.specs.declared.MessageLength.{MessageLength}
 use Rattle.tsar.specs.declared.MessageLength.TheVariants as len
@@ -20,7 +18,6 @@ use Rattle.tsar.specs.declared.SegmentKind.TheVariants as kind'
 use Rattle.tsar.specs.declared.Segment.{Segment}
 use Rattle.tsar.specs.declared.SegmentHead.{SegmentHead}
 use Rattle.segmentation.specs.declared.SegmentedMessage.{SegmentedMessage}
-use Rattle.segmentation.specs.declared.PlannedPart.{PlannedPart}
 use Rattle.segmentation.specs.declared.PlannedSegment.{PlannedSegment}
 use Rattle.segmentation.specs.declared.PlannedSegment.TheVariants.{NoSegment, Segment as Planned}
 use Rattle.segmentation.specs.declared.MessagePlan.{MessagePlan}
@@ -193,7 +190,7 @@ has_segment p i =
     && leb (p.later_capacity + min 1 (longer p)) 255
     && leb (part_start p i) p.message_octets
 
--- what the tests of hasSegment leave, for the code's sums
+-- what the tests of has_segment leave, for the code's sums
 pub record Sized (p : SegmentedMessage) : Type 0 where
   pub counted : p.count ≤ 256
   pub some : 0 < p.count

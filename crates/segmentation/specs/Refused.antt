@@ -5,7 +5,7 @@ use Rattle.std.proofs.Math.Option.{Option, none, some}
 use Rattle.std.proofs.lemmas.Bool.{eqb-false, not-true, not-false}
 use Rattle.tsar.specs.Rows.{Refusal, refusal, or_else, refusal_none, refusal_pass}
 use Rattle.tsar.specs.Writing.{header_octets}
-use Rattle.segmentation.specs.Cutting.{Cutting, is_begin, plain_kind}
+use Rattle.segmentation.specs.Cutting.{Cutting}
 use Rattle.segmentation.specs.Frozen.{Proposal, proposed, head_at, data_before, segment_rows, segments_from, frozen_rows, frozen_refusal}
 use Rattle.segmentation.specs.Accepted.{codec_of, budget_row, cut_rows, rows_of, cuts_pass, cut_end}
 

@@ -1,4 +1,6 @@
 // Planning a message's segments and checking a frozen plan: l3/tsar/segmentation.rs of the source. The planners are in plan, the check in frozen.
+#![tactic(auto)]
+
 use tsar::{AcknowledgmentWindow, Error, SegmentHead};
 
 pub mod frozen;
@@ -16,7 +18,7 @@ const MAX_LENGTH_IE_MESSAGE_OCTETS: usize = 4095;
 
 // A plan of either planner: capacities from which every segment follows, and no copy of the message. Where the capacities leave octets over, as
 // many later segments, the first ones, have one octet more than the later capacity.
-#[derive(Drop)]
+#[derive(Clone, Copy)]
 pub struct SegmentedMessage {
     pub message_octets: usize,
     pub payload_budget_octets: usize,
@@ -29,20 +31,20 @@ pub struct SegmentedMessage {
 }
 
 // Segment i of a plan: its head, and where its data begin in the message.
-#[derive(Drop)]
+#[derive(Clone, Copy)]
 pub struct PlannedPart {
     pub head: SegmentHead,
     pub offset: usize,
 }
 
-#[derive(Drop)]
+#[derive(Clone, Copy)]
 pub enum PlannedSegment {
     NoSegment,
     Segment(PlannedPart),
 }
 
 // A plan that passed the frozen check: the heads, those at and past the count empty; the data stay with the caller.
-#[derive(Drop)]
+#[derive(Clone, Copy)]
 pub struct FrozenMessage {
     pub heads: [SegmentHead; 256],
     pub count: usize,
@@ -53,7 +55,7 @@ pub struct FrozenMessage {
 
 // JoinedLength is 24, which the source has not: the joined data are not as long as the heads say. Nor has it ExceptionsWindow, 25: no planner makes a
 // plan under this window.
-#[derive(Drop)]
+#[derive(Clone, Copy)]
 pub enum PlanningError {
     PayloadBudget,
     HeaderCapacity,
@@ -65,28 +67,28 @@ pub enum PlanningError {
 }
 
 // What a planner answers.
-#[derive(Drop)]
+#[derive(Clone, Copy)]
 pub enum MessagePlan {
     Unsegmented,
     Segmented(SegmentedMessage),
     Refused(PlanningError),
 }
 
-#[derive(Drop)]
+#[derive(Clone, Copy)]
 pub enum FrozenAnswer {
     Accepted,
     Refused(PlanningError),
 }
 
 // What try_from_frozen gives: the answer, and the plan beside it; refused, a plan of no segments.
-#[derive(Drop)]
+#[derive(Clone, Copy)]
 pub struct FrozenCheck {
     pub answer: FrozenAnswer,
     pub plan: FrozenMessage,
 }
 
 // Where a segment's data begin in the joined data, unless that lies past the number of octets there are.
-#[derive(Drop)]
+#[derive(Clone, Copy)]
 pub enum DataStart {
     At(usize),
     Past,

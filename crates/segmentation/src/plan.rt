@@ -291,6 +291,7 @@ impl SegmentedMessage {
     }
 
     // How many octets a segment may have.
+    #[tactic(auto, using(crate::proofs::Parts::later_capacity))]
     fn part_capacity(self, index: usize) -> usize
         requires { SegmentSized self index }
         ensures { result ≡ part_capacity self index }

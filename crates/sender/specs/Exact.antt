@@ -1,9 +1,9 @@
--- 40 is decided exactly. Document 01: 40, 'a record that no planner or frozen check gives for the message under any ceiling'. isGiven holds of a
+-- 40 is decided exactly. Document 01: 40, 'a record that no planner or frozen check gives for the message under any ceiling'. is_given holds of a
 -- plan exactly where a planner, plan_message or the even one (2026-02), gives it, at some budget, transaction, window and version and under some
 -- ceiling, with the frozen part of no segments beside it; or where the frozen check gives it, for some proposal of 256 heads, under some version
 -- and ceiling. The one hypothesis is that the plan's array has 256 heads, which is a fact of its type.
-use Rattle.std.specs.Prelude.{ℕ, zero, suc, ◌+◌, ◌-◌, ◌≤◌, ◌<◌, ◌≡◌, refl, List, [], ◌∷◌, ◌++◌, Bool, true, false, cond, not, ◌&&◌, ◌||◌, ◌↔◌, length, take, drop, replicate, eqb}
-use Rattle.std.proofs.Common.{sym, ◌∙◌, subst, true≢false, ⊎_elim, arith, eqb-true, eq-eqb, le-ltb, ltb-false}
+use Rattle.std.specs.Prelude.{ℕ, zero, suc, ◌-◌, ◌≤◌, ◌≡◌, refl, List, [], ◌∷◌, ◌++◌, Bool, true, false, ◌&&◌, ◌||◌, ◌↔◌, length, take, drop, replicate, eqb}
+use Rattle.std.proofs.Common.{sym, ◌∙◌, subst, true≢false, ⊎_elim, arith, eqb-true, eq-eqb}
 use Rattle.std.proofs.Math.Path.{ap}
 use Rattle.std.proofs.Math.Bool.{or-true}
 use Rattle.std.proofs.Math.Option.{Option, none, some}
@@ -11,15 +11,16 @@ use Rattle.tsar.specs.Rows.{Refusal, refusal, refusal_none, refusal_pass}
 use Rattle.tsar.specs.Kinds.{same_kind}
 use Rattle.tsar.specs.Layout.{window_number}
 use Rattle.tsar.specs.Writing.{codec_rows}
-use Rattle.tsar.proofs.SameKind.{same_window, window_same, same_kind_lem, kind_same}
+use Rattle.tsar.proofs.SameKind.{same_window, same_kind_lem, kind_same}
 use Rattle.tsar.specs.declared.AcknowledgmentWindow.{AcknowledgmentWindow}
 use Rattle.tsar.specs.declared.SegmentHead.{SegmentHead}
 use Rattle.segmentation.specs.Plan.{Planning, refused as plan_refused, unsegmented, segmented, plan_message, even_message}
-use Rattle.segmentation.specs.Planned.{Spread, full, even, planning, Plannable, plan_given, plan_is, plan_arguments, plan_payload, plan_transaction, plan_window}
+use Rattle.segmentation.specs.Planned.{Spread, full, even, planning, Plannable}
+use Rattle.segmentation.proofs.Planned.{plan_given, plan_is, plan_arguments, plan_payload, plan_transaction, plan_window}
 use Rattle.segmentation.specs.declared.SegmentedMessage.{SegmentedMessage}
 use Rattle.segmentation.specs.declared.FrozenMessage.{FrozenMessage}
-use Rattle.segmentation.specs.Frozen.{Proposal, Checked, frozen_refusal, checked_as, try_from_frozen, frozen_of, kept_heads, no_head, no_plan, head_at, data_before, services_of, proposed}
-use Rattle.segmentation.specs.Accepted.{Acceptable, accepted_iff, acceptable_heads, cutting_accepted, joined_message}
+use Rattle.segmentation.specs.Frozen.{Proposal, Checked, frozen_refusal, checked_as, try_from_frozen, frozen_of, kept_heads, no_head, no_plan, head_at, data_before, services_of}
+use Rattle.segmentation.specs.Accepted.{accepted_iff, acceptable_heads, cutting_accepted, joined_message}
 use Rattle.segmentation.specs.Heads.{kept_head}
 use Rattle.segmentation.specs.Cutting.{Cutting, services_or_default}
 use Rattle.tsar.specs.Layout.{whole}

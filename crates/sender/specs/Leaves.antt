@@ -9,7 +9,7 @@ use Rattle.sender.specs.declared.SenderState.TheVariants.{Failed}
 use Rattle.sender.specs.declared.Sender.{Sender}
 use Rattle.sender.specs.Record.{is_closed, late, due, outline}
 use Rattle.sender.specs.Calls.{Step, refused, advance_of, awaits_word}
-use Rattle.sender.specs.CallList.{Call, advance, cancel, submitted, accepted, lower_failed, receive_response, step_of}
+use Rattle.sender.specs.CallList.{Call, advance, cancel, submitted, accepted, lower_failed, receive_response}
 
 -- the late 42: the lower layer's word on the present submission, at a due deadline. Advance has acted, and the word is awaited no more
 pub record LateStale (s : Sender) (number ticket reading : ℕ) (n : Refusal) (st : Step) : Type 0 where

@@ -19,10 +19,10 @@ use Rattle.sender.specs.declared.Arrival.{Arrival}
 use Rattle.sender.specs.declared.Sender.{Sender}
 use Rattle.sender.specs.Record.{is_closed, awaits_response, is_exceptions, has_pending, late, due, outline}
 use Rattle.sender.specs.Steps.{finish, advanced, read, until, marking, again, prepare, fire, sets_deadline, counted, accepted_next, cancelled}
-use Rattle.sender.specs.Calls.{Answer, refused, answered, Step, Turn, refuses, left, or_tickets, on_refusal, placed, advanced_to, clock_rows, advance_in, advance_of, cancel_in, cancel_of, offer_rows, submitted_rows, count_rows, counting, submitting, submitted_in, submitted_of, prepared_at, awaits_word, awaited_rows, word_rows, after_advance, accepted_in, accepted_of, lower_failed_in, lower_failed_of, arrival_rows, entry_rows, response_rows_of, reacted, late_first, receive_response_in, receive_response_of}
-use Rattle.sender.specs.CallList.{Call, advance, cancel, submitted, accepted, lower_failed, receive_response, step_of}
+use Rattle.sender.specs.Calls.{refused, Step, Turn, refuses, left, or_tickets, on_refusal, placed, advanced_to, clock_rows, advance_in, advance_of, cancel_in, cancel_of, offer_rows, submitted_rows, count_rows, counting, submitting, submitted_in, submitted_of, prepared_at, awaits_word, awaited_rows, word_rows, after_advance, accepted_in, accepted_of, lower_failed_in, lower_failed_of, arrival_rows, entry_rows, response_rows_of, reacted, late_first, receive_response_in, receive_response_of}
+use Rattle.sender.specs.CallList.{advance, cancel, submitted, accepted, lower_failed, receive_response, step_of}
 use Rattle.sender.specs.Pending.{and_both}
-use Rattle.sender.specs.Leaves.{LateStale, LateQueued, LateClosed, Excepted, RefusedLeaves}
+use Rattle.sender.specs.Leaves.{LateStale, LateQueued, LateClosed, RefusedLeaves}
 
 -- the ticket of a progress is past 2^64 - 1
 abbrev spent : Progress → Bool

@@ -10,7 +10,8 @@ use Rattle.link.specs.Profile.{known_profile}
 use Rattle.tsar.specs.Rows.{Refusal, refusal, refusal_none}
 use Rattle.tsar.specs.Layout.{window_number}
 use Rattle.segmentation.specs.Plan.{Planning, refused as plan_refused, unsegmented, segmented}
-use Rattle.segmentation.specs.Planned.{Spread, full, even, planning, plan_at_least, plan_at_most}
+use Rattle.segmentation.specs.Planned.{Spread, full, even, planning}
+use Rattle.segmentation.proofs.Planned.{plan_at_least, plan_at_most}
 use Rattle.segmentation.specs.Frozen.{frozen_refusal, checked_as, try_from_frozen}
 use Rattle.segmentation.specs.Accepted.{accepted_iff}
 use Rattle.segmentation.specs.declared.SegmentedMessage.{SegmentedMessage}

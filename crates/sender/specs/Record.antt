@@ -119,7 +119,7 @@ same_bool true b = b
 same_bool false b = not b
 
 -- of the progress of a sender of n segments: document 01's list. The sender's profile is no part of the progress: that of neither profile is the one
--- test more of 62 (2026-11), and `impossibleIn`, below, has it beside these
+-- test more of 62 (2026-11), and `impossible_in`, below, has it beside these
 abbrev pub faults : ℕ → Progress → List Bool
 faults n p =
     -- count not 2 to 256

@@ -1,4 +1,6 @@
 // The sender of one transaction: link/tsar/sender.rs of the source.
+#![tactic(auto)]
+
 ghost use Rattle.std.specs.Prelude.{◌≡◌};
 ghost use Rattle.sender.specs.Numbers.{sender_number};
 ghost use Rattle.sender.specs.Record.{interval_of};
@@ -57,28 +59,28 @@ const REACTIONS: [Reaction; 14] = [
     Reaction::Fails, // MultipleServicesUnsupported
 ];
 
-#[derive(Drop)]
+#[derive(Clone, Copy)]
 pub enum Completion {
     LowerLayerAccepted,
     PeerReceived,
     ExceptionIntervalElapsed,
 }
 
-#[derive(Drop)]
+#[derive(Clone, Copy)]
 pub enum LowerLayerFailure {
     Rejected { cause: u8 },
     TimedOut,
     Cancelled,
 }
 
-#[derive(Drop)]
+#[derive(Clone, Copy)]
 pub enum SenderFailure {
     SegmentInterval,
     LowerLayer(LowerLayerFailure),
     Peer(Status),
 }
 
-#[derive(Drop)]
+#[derive(Clone, Copy)]
 pub enum SenderState {
     Prepared,
     AwaitingAccept,
@@ -89,35 +91,35 @@ pub enum SenderState {
 }
 
 // The source's Option<u64>.
-#[derive(Drop)]
+#[derive(Clone, Copy)]
 pub enum Deadline {
     Off,
     At(u64),
 }
 
 // A plan of a planner, or that the plan is the frozen one beside it.
-#[derive(Drop)]
+#[derive(Clone, Copy)]
 pub enum PlanForm {
     Planned(SegmentedMessage),
     Frozen,
 }
 
 // What a sender sends. Under Planned the frozen record is that of no segments, as Plan::planned gives it: beside another the plan is none (40).
-#[derive(Drop)]
+#[derive(Clone, Copy)]
 pub struct Plan {
     pub form: PlanForm,
     pub frozen: FrozenMessage,
 }
 
 // The submission that a sender offers or awaits word of: the source's Option<Submission>.
-#[derive(Drop)]
+#[derive(Clone, Copy)]
 pub struct Submission {
     pub ticket: u64,
     pub index: u8,
     pub prepared_monotonic_ms: u64,
 }
 
-#[derive(Drop)]
+#[derive(Clone, Copy)]
 pub enum Current {
     Nothing,
     Submission(Submission),
@@ -125,7 +127,7 @@ pub enum Current {
 
 // What try_new fixes, but for the plan. The profile says how long the sender waits; a record can have any number there, and one of neither profile is
 // impossible. The sender number and a ticket are the source's token.
-#[derive(Drop)]
+#[derive(Clone, Copy)]
 pub struct Terms {
     pub peer: MobileIdentity,
     pub protocol: HigherLayerProtocol,
@@ -134,7 +136,7 @@ pub struct Terms {
     pub number: u64,
 }
 
-#[derive(Drop)]
+#[derive(Clone, Copy)]
 pub struct Progress {
     pub state: SenderState,
     pub current: Current,
@@ -147,7 +149,7 @@ pub struct Progress {
     pub layer3_submissions: u64,
 }
 
-#[derive(Drop)]
+#[derive(Clone, Copy)]
 pub struct Sender {
     pub terms: Terms,
     pub progress: Progress,
@@ -155,7 +157,7 @@ pub struct Sender {
 }
 
 // The last three are document 01's 62 and 63 and 2026-11's 64, which the source has not.
-#[derive(Drop)]
+#[derive(Clone, Copy)]
 pub enum SenderError {
     Identity,
     Plan,
@@ -179,21 +181,21 @@ pub enum SenderError {
     Profile,
 }
 
-#[derive(Drop)]
+#[derive(Clone, Copy)]
 pub enum SenderAnswer {
     State(SenderState),
     Refused(SenderError),
 }
 
 // What a call gives: the answer, and the sender as the call leaves it.
-#[derive(Drop)]
+#[derive(Clone, Copy)]
 pub struct Sent {
     pub answer: SenderAnswer,
     pub sender: Sender,
 }
 
 // What the calls read of the plan, and the profile.
-#[derive(Drop)]
+#[derive(Clone, Copy)]
 pub struct Outline {
     pub count: usize,
     pub acknowledgment_window: AcknowledgmentWindow,
@@ -202,7 +204,7 @@ pub struct Outline {
 }
 
 // What one response brings.
-#[derive(Drop)]
+#[derive(Clone, Copy)]
 pub struct Arrival {
     pub peer: MobileIdentity,
     pub protocol: HigherLayerProtocol,
@@ -212,7 +214,7 @@ pub struct Arrival {
 }
 
 // The reaction to a status.
-#[derive(Drop)]
+#[derive(Clone, Copy)]
 pub enum Reaction {
     Completes,
     Marks,
@@ -221,28 +223,28 @@ pub enum Reaction {
 }
 
 // What a step leaves, unless a new submission would need ticket 2^64.
-#[derive(Drop)]
+#[derive(Clone, Copy)]
 pub enum Moved {
     NoTicket,
     To(Progress),
 }
 
 // What a check finds: nothing, or the first test that fails.
-#[derive(Drop)]
+#[derive(Clone, Copy)]
 pub enum Check {
     Pass,
     Refuse(SenderError),
 }
 
 // What a call gives, of the progress alone.
-#[derive(Drop)]
+#[derive(Clone, Copy)]
 pub struct Turned {
     pub answer: SenderAnswer,
     pub progress: Progress,
 }
 
 // The submission that a Prepared sender offers: its token, its index and its segment.
-#[derive(Drop)]
+#[derive(Clone, Copy)]
 pub struct Offered {
     pub number: u64,
     pub ticket: u64,
@@ -250,7 +252,7 @@ pub struct Offered {
     pub part: PlannedPart,
 }
 
-#[derive(Drop)]
+#[derive(Clone, Copy)]
 pub enum Offer {
     Nothing,
     Submission(Offered),

@@ -1,4 +1,6 @@
 // What the sender's exports answer: the number of a call, SUBMISSION, and the failures of the lower layer by number.
+#![tactic(auto)]
+
 ghost use Rattle.std.specs.Prelude.{◌≡◌};
 ghost use Rattle.std.proofs.lemmas.List.Edits.{sets};
 ghost use Rattle.codec_c.specs.Codes.{code_of};

@@ -1,7 +1,7 @@
 -- What the sender's exports give, and what they leave in each lent buffer: the exports' own tests first, which change nothing, and then
 -- what the sender's own definition says of the record that the buffer spells.
 use Rattle.std.specs.Prelude.{◌≡◌, Bool, true, not, List, [], ◌∷◌, ℕ, ltb, length}
-use Rattle.std.proofs.Math.Option.{Option, none, some}
+use Rattle.std.proofs.Math.Option.{none}
 use Rattle.std.proofs.lemmas.List.Edits.{sets}
 use Rattle.tsar.specs.Rows.{Refusal, refusal}
 use Rattle.link.specs.declared.MobileIdentity.{MobileIdentity}
@@ -12,13 +12,13 @@ use Rattle.sender.specs.declared.Sender.{Sender}
 use Rattle.sender.specs.declared.Offer.{Offer}
 use Rattle.sender.specs.Record.{interval_of}
 use Rattle.sender.specs.Calls.{Answer, refused, answered, Step, advance_of, cancel_of, submitted_of, accepted_of, lower_failed_of, receive_response_of}
-use Rattle.sender.specs.TryNew.{try_new_of, offer_of}
+use Rattle.sender.specs.TryNew.{try_new_of}
 use Rattle.image.specs.Cases.{protocol_of}
 use Rattle.image_link.specs.Responses.{response_of, response_ok}
 use Rattle.plan_image.specs.Plans.{plan_of, plan_ok}
 use Rattle.sender_image.specs.Images.{image_of, record_of, image_ok}
 use Rattle.sender_image.specs.States.{state_image}
-use Rattle.codec_c.specs.Codes.{code_of, short, misspelled, unnamed, unless_refused}
+use Rattle.codec_c.specs.Codes.{short, misspelled, unnamed, unless_refused}
 use Rattle.sender_answers.specs.Answers.{answer_code, offer_code, offer_octets, failure_of}
 
 -- ---- a call

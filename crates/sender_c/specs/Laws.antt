@@ -11,7 +11,6 @@ use Rattle.link.specs.declared.HigherLayerProtocol.{HigherLayerProtocol}
 use Rattle.response.specs.declared.Response.{Response}
 use Rattle.sender.specs.declared.Plan.{Plan}
 use Rattle.sender.specs.declared.Sender.{Sender}
-use Rattle.sender.specs.declared.SenderState.{SenderState}
 use Rattle.sender.specs.declared.Offer.{Offer}
 use Rattle.sender.specs.Calls.{Answer, refused, answered, Step, receive_response_of}
 use Rattle.sender.specs.TryNew.{try_new_of}

@@ -1,4 +1,6 @@
 // The sender's exports: its record in octets, what a call brings as numbers and octets, and its state as the answer.
+#![tactic(auto)]
+
 ghost use Rattle.std.specs.Prelude.{◌≡◌, [], ◌≤◌, length};
 ghost use Rattle.std.proofs.lemmas.List.Edits.{sets};
 ghost use Rattle.sender.specs.Says.{sender_says, sent};

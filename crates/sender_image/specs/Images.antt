@@ -1,5 +1,5 @@
 -- The layout SENDER, 6,131 octets: head (174), the plan without its layout version (5,957). Any record whose numbers fit their types is read
--- back as it was, impossible ones too, and what is read and put back changes no octet (sender-layout, with the laws of every layout).
+-- back as it was, impossible ones too, and what is read and put back changes no octet (sender_layout, with the laws of every layout).
 -- Assumes nothing.
 use Rattle.std.specs.Prelude.{◌≡◌, Bool, true, ◌&&◌, List, [], ◌++◌, ℕ, ◌≤◌, length, drop}
 use Rattle.std.proofs.Math.Path.{refl}

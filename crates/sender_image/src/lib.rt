@@ -1,4 +1,6 @@
 // The layout SENDER: a sender's record in 6,131 octets, put and got with the strict test. Internal to the exports, as the crate image is.
+#![tactic(auto)]
+
 ghost use Rattle.std.specs.Prelude.{◌≡◌, ◌&&◌, ◌≤◌, length};
 ghost use Rattle.std.proofs.lemmas.List.Edits.{sets};
 ghost use Rattle.sender_image.specs.Images.{image_of, record_of, image_ok, SenderFits};
@@ -22,20 +24,20 @@ const LAYOUT_VERSION: u8 = 2;
 const PLAN: usize = 174;
 
 // All of a sender but the plan.
-#[derive(Drop)]
+#[derive(Clone, Copy)]
 pub struct Head {
     pub terms: Terms,
     pub progress: Progress,
 }
 
 // What octets spell, and whether they are the octets of that.
-#[derive(Drop)]
+#[derive(Clone, Copy)]
 pub struct HeadRead {
     pub ok: bool,
     pub head: Head,
 }
 
-#[derive(Drop)]
+#[derive(Clone, Copy)]
 pub struct SenderRead {
     pub ok: bool,
     pub sender: Sender,

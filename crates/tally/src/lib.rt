@@ -1,18 +1,20 @@
 // Counting cases, and printing what was counted. No contract can say what is printed; each call is safe and ends.
-use libc::STDOUT_FILENO;
+#![tactic(auto)]
+
+use std::io;
 
 // Of so many cases that differ the number is printed, and of so many that are malformed; the rest are only counted.
 const MAX_SHOWN: u64 = 5;
 
 // What a case shows: our answer is the recorded one, or another; or the case is none that its list may hold.
-#[derive(Drop)]
+#[derive(Clone, Copy)]
 pub enum Outcome {
     Same,
     Differs,
     Malformed,
 }
 
-#[derive(Drop)]
+#[derive(Clone, Copy)]
 pub struct Tally {
     pub cases: u64,
     pub same: u64,
@@ -20,17 +22,17 @@ pub struct Tally {
     pub malformed: u64,
 }
 
-pub fn say(text: &[u8]) {
-    io::write_all(STDOUT_FILENO, text);
+pub fn say(rt: &impl Print, text: &[u8]) -> io::Result<()> {
+    rt.write_all(text)
 }
 
-pub fn say_number(n: u64) {
-    io::print_decimal(STDOUT_FILENO, n);
+pub fn say_number(rt: &impl Print, n: u64) -> io::Result<()> {
+    print!(rt; "{n}")
 }
 
 // An octet in two hexadecimal digits.
-pub fn say_octet(x: u8) {
-    io::print_hex(STDOUT_FILENO, x as u64, 2);
+pub fn say_octet(rt: &impl Print, x: u8) -> io::Result<()> {
+    print!(rt; "{x:02x}")
 }
 
 // One more, as far as numbers go.
@@ -80,31 +82,31 @@ impl Tally {
     }
 
     // Prints the number of the case that was just counted, and its outcome.
-    pub fn say_case(self, outcome: Outcome) {
-        say(b"  case ");
-        say_number(self.cases);
+    pub fn say_case(self, rt: &impl Print, outcome: Outcome) -> io::Result<()> {
+        say(rt, b"  case ")?;
+        say_number(rt, self.cases)?;
         match outcome {
-            Outcome::Same => say(b": same"),
-            Outcome::Differs => say(b": differs"),
-            Outcome::Malformed => say(b": malformed"),
+            Outcome::Same => say(rt, b": same"),
+            Outcome::Differs => say(rt, b": differs"),
+            Outcome::Malformed => say(rt, b": malformed"),
         }
     }
 
     // The line of a list or a group of cases.
-    pub fn report(self, name: &[u8]) {
-        say(name);
-        say(b": ");
-        say_number(self.cases);
-        say(b" cases, ");
-        say_number(self.same);
-        say(b" same, ");
-        say_number(self.differ);
-        say(b" differ");
+    pub fn report(self, rt: &impl Print, name: &[u8]) -> io::Result<()> {
+        say(rt, name)?;
+        say(rt, b": ")?;
+        say_number(rt, self.cases)?;
+        say(rt, b" cases, ")?;
+        say_number(rt, self.same)?;
+        say(rt, b" same, ")?;
+        say_number(rt, self.differ)?;
+        say(rt, b" differ")?;
         if 0 < self.malformed {
-            say(b", ");
-            say_number(self.malformed);
-            say(b" malformed");
+            say(rt, b", ")?;
+            say_number(rt, self.malformed)?;
+            say(rt, b" malformed")?;
         }
-        say(b"\n");
+        say(rt, b"\n")
     }
 }

@@ -1,7 +1,7 @@
 -- Going on by lengths and octets: what is left of both behind the first k segments are the segments behind them, for any lengths (an odd last
 -- octet too), octets and k. Assumes nothing.
 use mathlib.Core.Path.{◌≡◌, refl, sym, ap, ap₂, ◌∙◌}
-use mathlib.Core.List.{List, []}
+use mathlib.Core.List.{List}
 use Prim.Native.Nat.{ℕ, zero, suc, ◌+◌, ◌-◌, ◌*◌, ◌/◌}
 use native.Mathlib.Omega.{arith}
 use lib.ListN.{length, drop, length-drop}

@@ -3,7 +3,7 @@
 use mathlib.Core.Path.{◌≡◌, refl, sym, ap, ap₂, subst, ◌∙◌}
 use mathlib.Core.Bool.{Bool, true, false, cond, not, true≢false}
 use mathlib.Core.List.{List, [], ◌∷◌, ◌++◌}
-use mathlib.Core.Option.{Option, none, some}
+use mathlib.Core.Option.{none, some}
 use Prim.Native.Nat.{ℕ, zero, suc, ◌+◌, ◌-◌, ◌≤◌, ◌<◌}
 use native.Mathlib.Nat.{zero-add}
 use native.Mathlib.Omega.{arith}
@@ -12,11 +12,10 @@ use lib.Seq.{take-length, take-append_seam, take-append-le, take-append-add, get
 use Rattle.link.specs.declared.MobileIdentity.{MobileIdentity}
 use Rattle.link.specs.declared.HigherLayerProtocol.{HigherLayerProtocol}
 use Rattle.receiver.specs.declared.Receiver.{Receiver}
-use Rattle.receiver.specs.declared.Reported.{Reported}
 use Rattle.receiver.specs.Record.{taking}
 use Rattle.receiver.specs.Answers.{Answer, refused, answered, Step}
 use Rattle.codec_c.specs.Codes.{code_of}
-use Rattle.train_c.specs.Walk.{Train, train, stops, start_of, train_step, train_of, after}
+use Rattle.train_c.specs.Walk.{Train, train, start_of, train_step, train_of, after}
 use Rattle.train_c.specs.Singly.{steps_of, last_of, Empty, AllEmpty, Ends, all, behind, at, Kept, LosesNothing}
 use Rattle.train_c.proofs.Numbered.{refused_code}
 

@@ -1,13 +1,11 @@
 -- The reception in a train's answer carries the figures of its response's own map, as that of a single call does. Assumes nothing.
 use Prim.Native.Nat.{ℕ, ◌+◌}
 use mathlib.Core.List.{List, [], ◌∷◌}
-use mathlib.Core.Option.{Option}
 use Rattle.tsar.specs.Rows.{either}
 use Rattle.tsar.specs.Reading.{Decoded, decoded, refused as unread, segment_of as decode_of}
 use Rattle.link.specs.declared.MobileIdentity.{MobileIdentity}
 use Rattle.link.specs.declared.HigherLayerProtocol.{HigherLayerProtocol}
 use Rattle.receiver.specs.declared.Receiver.{Receiver}
-use Rattle.receiver.specs.declared.Reported.{Reported}
 use Rattle.receiver.specs.Record.{interval_of}
 use Rattle.receiver.specs.Answers.{Answer, refused, answered, Step}
 use Rattle.receiver.specs.Figured.{Carried, CarriedIn, OwnFigures, receive_own}

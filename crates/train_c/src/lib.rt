@@ -1,4 +1,6 @@
 // The exported train: segments that stand one after another are decoded and received in one call.
+#![tactic(auto)]
+
 ghost use Rattle.std.specs.Prelude.{◌≡◌, ◌||◌, not, ◌+◌, ◌/◌, ◌≤◌, min, length, take, drop};
 ghost use Rattle.std.proofs.lemmas.List.Edits.{sets};
 ghost use Rattle.receiver.specs.Record.{taking as taking_of};
@@ -29,7 +31,7 @@ const LAST_PROTOCOL: u8 = 2;
 const LENGTH_OCTETS: usize = 2;
 
 // Where a train ends: its number, how many segments were received, what the last of them was answered, and the receiver.
-#[derive(Drop)]
+#[derive(Clone, Copy)]
 struct Walked {
     code: u32,
     received: u64,

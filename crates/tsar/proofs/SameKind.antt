@@ -3,7 +3,6 @@ use mathlib.Core.Path.{◌≡◌, refl, sym, ap, ◌∙◌, subst}
 use mathlib.Core.Bool.{Bool, true, false, ◌&&◌, true≢false}
 use mathlib.Core.Logic.{◌↔◌}
 use mathlib.Core.Option.{some}
-use Prim.Native.Nat.{ℕ}
 use borrow.Author.Tests.{eqb-true, eq-eqb}
 use lib.Dec.{eqb}
 use Rattle.tsar.specs.Kinds.{same_lengths, same_optional, same_services, same_crc, same_kind}
@@ -141,6 +140,6 @@ kind_same (kind'.Begin n s) = simp (lengths_same n, services_same s)
 kind_same (kind'.Continue n) = lengths_same n
 kind_same (kind'.End n c) = simp (lengths_same n, crc_same c)
 
--- sameKind holds of two kinds exactly where they are one kind with one set of parameters
+-- same_kind holds of two kinds exactly where they are one kind with one set of parameters
 pub same_kind_lem : (a b : SegmentKind) → (same_kind a b ≡ true) ↔ (a ≡ b)
 same_kind_lem a b = (same_one a b, λ (p : a ≡ b). subst (λ (x : SegmentKind). same_kind a x ≡ true) p (kind_same a))

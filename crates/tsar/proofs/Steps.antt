@@ -17,7 +17,6 @@ use Rattle.tsar.specs.declared.AcknowledgmentWindow.TheVariants as window
 use Rattle.tsar.specs.declared.CrcStatus.{CrcStatus}
 use Rattle.tsar.specs.declared.CrcStatus.TheVariants as status
 use Rattle.tsar.specs.declared.OptionalServices.{OptionalServices}
-use Rattle.tsar.specs.declared.Services.{Services}
 use Rattle.tsar.specs.declared.MessageCrc.TheVariants as crc
 use Rattle.tsar.specs.declared.decode.Params.{Params}
 use Rattle.tsar.specs.declared.decode.ServicesRead.{ServicesRead}

@@ -1,6 +1,6 @@
 -- What decode_segment's answer says of the octets read: its data are those behind the third octet, as many as the head says, and all of
 -- them are there. So the answer, which has the head and two numbers, says the whole segment. Assumes nothing.
-use mathlib.Core.Path.{◌≡◌, refl, sym, ap, ap₂, ◌∙◌, subst}
+use mathlib.Core.Path.{◌≡◌, sym, ap, ap₂, ◌∙◌, subst}
 use mathlib.Core.List.{List, [], ◌∷◌}
 use Prim.Native.Nat.{ℕ, ◌+◌, ◌/◌, ◌≤◌}
 use native.Mathlib.Omega.{arith}

@@ -14,7 +14,6 @@ use Rattle.tsar.specs.declared.Services.{Services}
 use Rattle.tsar.specs.declared.Services.TheVariants as optional
 use Rattle.tsar.specs.declared.MessageCrc.{MessageCrc}
 use Rattle.tsar.specs.declared.MessageCrc.TheVariants as crc
-use Rattle.tsar.specs.declared.Error.{Error}
 use Rattle.tsar.specs.declared.Error.TheVariants.{Truncated, Reserved, DuplicateParameter}
 use Rattle.tsar.specs.declared.decode.Params.{Params}
 use Rattle.tsar.specs.declared.decode.ServicesRead.{ServicesRead}

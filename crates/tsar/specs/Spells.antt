@@ -1,5 +1,5 @@
 -- When octets spell a segment, with so many octets left unparsed: the relation that reading is held to, both ways.
-use Rattle.std.specs.Prelude.{ℕ, ◌+◌, ◌≤◌, ◌<◌, ◌≡◌, List, [], ◌∷◌, ◌++◌, reverse, length, get_or, take}
+use Rattle.std.specs.Prelude.{ℕ, ◌≤◌, ◌<◌, ◌≡◌, List, [], ◌∷◌, ◌++◌, reverse, length, get_or, take}
 use Rattle.tsar.specs.declared.MessageLength.{MessageLength}
 use Rattle.tsar.specs.declared.MessageLength.TheVariants as len
 use Rattle.tsar.specs.declared.MessageCrc.{MessageCrc}

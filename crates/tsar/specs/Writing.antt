@@ -1,5 +1,5 @@
 -- What writing a segment answers and leaves: the tests in document 01's order, then the octets of the layout.
-use Rattle.std.specs.Prelude.{ℕ, ◌+◌, ◌≤◌, ◌<◌, ◌≡◌, Bool, true, false, cond, List, [], ◌∷◌, ◌++◌, length, ltb}
+use Rattle.std.specs.Prelude.{ℕ, ◌+◌, ◌≤◌, ◌<◌, ◌≡◌, Bool, false, List, [], ◌∷◌, ◌++◌, length, ltb}
 use Rattle.std.proofs.Math.Option.{Option, none, some}
 use Rattle.std.proofs.lemmas.List.Edits.{sets}
 use Rattle.tsar.specs.declared.MessageLength.{MessageLength}
@@ -11,7 +11,6 @@ use Rattle.tsar.specs.declared.MessageCrc.TheVariants as crc
 use Rattle.tsar.specs.declared.SegmentKind.{SegmentKind}
 use Rattle.tsar.specs.declared.SegmentKind.TheVariants as kind'
 use Rattle.tsar.specs.declared.Segment.{Segment}
-use Rattle.tsar.specs.declared.Validated.{Validated}
 use Rattle.tsar.specs.declared.encode.EncodeAnswer.{EncodeAnswer}
 use Rattle.tsar.specs.declared.encode.EncodeAnswer.TheVariants as answered
 pub use Rattle.tsar.specs.Numbers.{validated_by}

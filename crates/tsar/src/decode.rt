@@ -42,21 +42,21 @@ const CRC16_VALUES: u32 = 65_536;
 const CRC24_VALUES: u32 = 16_777_216;
 
 // The parameters read so far.
-#[derive(Drop)]
+#[derive(Clone, Copy)]
 pub struct Params {
     pub message_length: MessageLength,
     pub services: Services,
     pub crc: MessageCrc,
 }
 
-#[derive(Drop)]
+#[derive(Clone, Copy)]
 pub enum ServicesRead {
     Services(OptionalServices),
     Reserved,
 }
 
 // One parameter: it was taken, with the octets it has; no parameter of this type stands here; or a refusal.
-#[derive(Drop)]
+#[derive(Clone, Copy)]
 pub enum Step {
     Taken(Params, usize),
     Stop,
@@ -64,20 +64,20 @@ pub enum Step {
 }
 
 // The parameters, and the offset at which unparsed octets begin.
-#[derive(Drop)]
+#[derive(Clone, Copy)]
 pub struct Parsed {
     pub params: Params,
     pub at: usize,
 }
 
-#[derive(Drop)]
+#[derive(Clone, Copy)]
 pub enum ParamsRead {
     Read(Parsed),
     Refused(Error),
 }
 
 // What decode_segment answers.
-#[derive(Drop)]
+#[derive(Clone, Copy)]
 pub enum DecodeAnswer {
     Decoded(DecodedSegment),
     Refused(Error),
@@ -319,21 +319,21 @@ fn read_param(s: &[u8], kind: SegmentType, p: Params) -> Step
 
 // The octets of a segment and an offset in them. Each function over it is proved by a walk by hand; param_at, which does
 // the work, is not over it.
-#[derive(Drop)]
+#[derive(Clone, Copy)]
 pub struct Reader<'a> {
     pub bytes: &'a [u8],
     pub offset: usize,
 }
 
 // What a reader takes: a step, and the reader after it, whose offset is past the parameter that was taken.
-#[derive(Drop)]
+#[derive(Clone, Copy)]
 pub struct Took<'a> {
     pub step: Step,
     pub reader: Reader<'a>,
 }
 
 // A step, and the offset after it.
-#[derive(Drop)]
+#[derive(Clone, Copy)]
 pub struct Stepped {
     pub step: Step,
     pub offset: usize,
@@ -486,6 +486,7 @@ fn read_as(bytes: &[u8], kind: SegmentType) -> DecodeAnswer
 
 // Reads a segment of any octets under any version. The answer has the head of what is read and the numbers of its data octets and
 // of the octets unparsed, by value.
+#[tactic(auto, unfolding(crate::specs::Reading::segment_of))]
 pub fn decode_segment(bytes: &[u8], version: u8) -> DecodeAnswer
     ensures { told_by result ≡ told_of (segment_of version bytes.now) }
 {

@@ -35,7 +35,7 @@ const CRC_STATUS_PLACE: u16 = 2;
 const CRC_PLACE: u32 = 16;
 
 // What encode answers: how many octets were written, a refusal, or 61.
-#[derive(Drop)]
+#[derive(Clone, Copy)]
 pub enum EncodeAnswer {
     Encoded(usize),
     Refused(Error),

@@ -1,4 +1,6 @@
 // The TSAR segment codec: l3/tsar.rs of the source. Writing is in encode, reading in decode.
+#![tactic(auto)]
+
 ghost use Rattle.std.specs.Prelude.{◌≡◌};
 ghost use Rattle.tsar.specs.Layout.{type_of};
 ghost use Rattle.tsar.specs.Reading.{begin_test};
@@ -42,13 +44,13 @@ const CRC16_PARAMETER: u8 = 2;
 
 const CRC24_PARAMETER: u8 = 3;
 
-#[derive(Drop)]
+#[derive(Clone, Copy)]
 pub enum Compression {
     None,
     V42Bis,
 }
 
-#[derive(Drop)]
+#[derive(Clone, Copy)]
 pub enum AcknowledgmentWindow {
     Prohibited,
     Every4,
@@ -58,14 +60,14 @@ pub enum AcknowledgmentWindow {
     Exceptions,
 }
 
-#[derive(Drop)]
+#[derive(Clone, Copy)]
 pub enum CrcStatus {
     None,
     Crc16,
     Crc24,
 }
 
-#[derive(Drop)]
+#[derive(Clone, Copy)]
 pub struct OptionalServices {
     pub compression: Compression,
     pub acknowledgment_window: AcknowledgmentWindow,
@@ -73,28 +75,28 @@ pub struct OptionalServices {
 }
 
 // The message length that a segment states by parameter 1: the source's Option<u16>.
-#[derive(Drop)]
+#[derive(Clone, Copy)]
 pub enum MessageLength {
     Unstated,
     Stated(u16),
 }
 
 // The services of a Begin: the source's Option<OptionalServices>. Absent differs from the same services spelled out.
-#[derive(Drop)]
+#[derive(Clone, Copy)]
 pub enum Services {
     Absent,
     SpelledOut(OptionalServices),
 }
 
 // The CRC of an End: the source's Option<MessageCrc>.
-#[derive(Drop)]
+#[derive(Clone, Copy)]
 pub enum MessageCrc {
     Absent,
     Crc16(u16),
     Crc24(u32),
 }
 
-#[derive(Drop)]
+#[derive(Clone, Copy)]
 pub enum SegmentKind {
     Begin {
         message_length: MessageLength,
@@ -110,7 +112,7 @@ pub enum SegmentKind {
 }
 
 // A segment beside its data, which comes as a slice.
-#[derive(Drop)]
+#[derive(Clone, Copy)]
 pub struct Segment {
     pub transaction_id: u8,
     pub sequence_number: u8,
@@ -118,21 +120,21 @@ pub struct Segment {
 }
 
 // A segment's head: the segment and the number of its data octets.
-#[derive(Drop)]
+#[derive(Clone, Copy)]
 pub struct SegmentHead {
     pub segment: Segment,
     pub segment_data_length: usize,
 }
 
 // What reading gives. The data are a part of the octets read: those from HEADER_OCTETS on, as many as the head says.
-#[derive(Drop)]
+#[derive(Clone, Copy)]
 pub struct DecodedSegment {
     pub head: SegmentHead,
     pub unparsed_octets: usize,
 }
 
 // The field that Error::Field names: document 01's 6/1 to 6/7.
-#[derive(Drop)]
+#[derive(Clone, Copy)]
 pub enum ErrorField {
     TransactionId,
     SegmentDataLength,
@@ -143,7 +145,7 @@ pub enum ErrorField {
     OptionalServicesSupportStatus,
 }
 
-#[derive(Drop)]
+#[derive(Clone, Copy)]
 pub enum Error {
     Version,
     Truncated,
@@ -156,14 +158,14 @@ pub enum Error {
 }
 
 // What a check gives: nothing against it, or the first test that fails.
-#[derive(Drop)]
+#[derive(Clone, Copy)]
 pub enum Validated {
     Valid,
     Refused(Error),
 }
 
 // A kind without its parameters.
-#[derive(Drop)]
+#[derive(Clone, Copy)]
 pub enum SegmentType {
     Begin,
     Continue,

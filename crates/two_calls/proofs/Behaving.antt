@@ -10,7 +10,7 @@ use native.Mathlib.Omega.{arith}
 use Rattle.tsar.specs.Rows.{Refusal, refusal}
 use Rattle.codec_c.specs.Codes.{code_of, unless_refused}
 use Rattle.two_calls.specs.TwoCalls.{own_number, Written, made, passed, kept, kept_making, NeverMisspelled}
-use Rattle.two_calls.proofs.Passing.{all_pass, passes, refusal_passes, other, other_refusal, own, not_misspelled, call_other, call_passed}
+use Rattle.two_calls.proofs.Passing.{all_pass, refusal_passes, other, other_refusal, own, not_misspelled, call_other, call_passed}
 
 pub record Behaves (ok : List ℕ → Bool) (others : Bool) (before : List ℕ) (n : ℕ) (after : List ℕ) : Type 0 where
   pub passed_ok : own_number n ≡ false → ok before ≡ true

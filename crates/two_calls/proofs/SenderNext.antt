@@ -2,7 +2,7 @@
 use mathlib.Core.Path.{◌≡◌, refl, sym, ap, subst, ◌∙◌}
 use mathlib.Core.Bool.{Bool, true}
 use mathlib.Core.List.{List, []}
-use mathlib.Core.Option.{Option, none, some}
+use mathlib.Core.Option.{none}
 use Prim.Native.Nat.{ℕ}
 use Rattle.tsar.specs.Rows.{Refusal, refusal, refusal_none}
 use Rattle.sender.specs.declared.SenderState.{SenderState}
@@ -13,7 +13,6 @@ use Rattle.sender.specs.declared.Offer.TheVariants.{Nothing, Submission}
 use Rattle.sender.specs.Record.{interval_of}
 use Rattle.sender.specs.Calls.{Answer, refused, answered, Step}
 use Rattle.sender.specs.TryNew.{offer_of}
-use Rattle.image_link.specs.Responses.{response_ok}
 use Rattle.plan_image.specs.Plans.{plan_of}
 use Rattle.sender_image.specs.Images.{record_of, image_ok}
 use Rattle.sender_answers.specs.Answers.{answer_code, offer_code, failure_of}

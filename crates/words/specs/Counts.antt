@@ -1,8 +1,8 @@
 -- Laws of how many numbers below n a predicate holds at, and of the lowest where only the first n of m count. Assumes nothing.
 use Rattle.std.specs.Prelude.{◌≡◌, refl, Bool, true, false, cond, not, ℕ, zero, suc, ◌+◌, ◌-◌, ◌≤◌, ◌<◌}
-use Rattle.std.proofs.Common.{sym, ap, ◌∙◌, true≢false, ⊎_elim, add-zero, add-suc, add_assoc, arith}
+use Rattle.std.proofs.Common.{ap, ◌∙◌, ⊎_elim, add-zero, add-suc, add_assoc, arith}
 use Rattle.words.specs.Marks.{count_below, lowest_of}
-use Rattle.words.specs.Search.{lt_or_le, IsLowest, lowest_is, lowest_at, lowest_none, lowest_nothing}
+use Rattle.words.specs.Search.{lt_or_le, lowest_is, lowest_at, lowest_none, lowest_nothing}
 use Rattle.words.specs.declared.Found.{Found}
 use Rattle.words.specs.declared.Found.TheVariants.{Nothing, At}
 

@@ -1,4 +1,4 @@
--- Laws of a number as the sum of the powers of two at its set bits: `sumBelow n f` is below 2 ^ n, its bits are f's, a number is the sum
+-- Laws of a number as the sum of the powers of two at its set bits: `sum_below n f` is below 2 ^ n, its bits are f's, a number is the sum
 -- at its own bits, and the sums that a single bit and a run of low bits make. Assumes nothing.
 use Rattle.std.specs.Prelude.{◌≡◌, refl, Bool, true, false, cond, ℕ, zero, suc, ◌+◌, ◌-◌, ◌*◌, ◌/◌, ◌%◌, ◌^◌, ◌≤◌, ◌<◌, eqb}
 use Rattle.std.proofs.Common.{sym, ap, ap₂, ◌∙◌, ⊎_elim, mod-lt, mod-eq_of_lt, one-mul, zero-mul, zero-add, add-zero, lt_of_lt_of_le, one-add, arith, eqb-true, lit<, pow_pos, pow_mono}

@@ -1,9 +1,11 @@
 // 256 marks in four 64-bit words: mark i is bit i % 64 of word i / 64. (A struct of four fields, since an enum cannot hold an array.)
+#![tactic(auto)]
+
 ghost use Rattle.std.specs.Prelude.{◌≡◌, ◌||◌, ◌&&◌, not, suc, ◌<◌, eqb, ltb, get_or};
 ghost use Rattle.words.specs.Marks.{bit, words_list, marked, word_from, words_of, no_marks, highest_of, lowest_of, all_below, count_below};
 ghost use Rattle.words.specs.Search.{IsHighest, IsLowest};
 
-#[derive(Drop)]
+#[derive(Clone, Copy)]
 pub struct Words {
     pub a: u64,
     pub b: u64,
@@ -12,7 +14,7 @@ pub struct Words {
 }
 
 // A mark that was looked for.
-#[derive(Drop)]
+#[derive(Clone, Copy)]
 pub enum Found {
     Nothing,
     At(u8),

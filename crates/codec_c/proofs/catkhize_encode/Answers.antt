@@ -1,0 +1,43 @@
+-- `codec_c::catkhize_encode` meets its contract: its own tests are the rows of `encode_tests`, in order, and past them it is `encode_into`.
+-- Assumes nothing.
+use borrow.Author.Tests.{lt-ltb, le-ltb}
+use mathlib.Core.Path.{sym, ap, ◌∙◌}
+use mathlib.Core.Bool.{not}
+use mathlib.Core.List.{List}
+use native.Mathlib.Omega.{arith}
+use Prim.Native.Nat.{ℕ, ◌≤◌}
+use lib.ListN.{length}
+use Rattle.tsar.specs.Rows.{Passed, start, skip, stop}
+use Rattle.codec_c.specs.Codes.{short, misspelled}
+use Rattle.codec_c.specs.Calls.{encode_tests}
+use Rattle.codec_c.specs.Laws.{encode_refused, encode_passed}
+use Rattle.codec_c.proofs.catkhize_encode.Goals as goal
+
+-- one row after another was passed
+passed_1 : (segment answer : List ℕ) → 15 ≤ length segment → Passed (encode_tests segment answer) 1
+passed_1 segment answer h = skip (start (encode_tests segment answer)) (le-ltb _ _ h)
+
+passed_2 : (segment answer : List ℕ) → 15 ≤ length segment → 8 ≤ length answer → Passed (encode_tests segment answer) 2
+passed_2 segment answer h k = skip (passed_1 segment answer h) (le-ltb _ _ k)
+
+pub returns-then-answer-lt-WRITTEN_OCTETS : goal.returns-then-answer-lt-WRITTEN_OCTETS
+returns-then-answer-lt-WRITTEN_OCTETS c =
+    let x = c.args in
+    encode_refused x.segment.now x.«data».now x.version x.output.now x.answer.now short
+    (stop short (passed_1 x.segment.now x.answer.now (omega arith)) (lt-ltb _ _ c.if-answer-lt-WRITTEN_OCTETS.true))
+
+pub returns-then-not-read : goal.returns-then-not-read
+returns-then-not-read c =
+    let x = c.args in
+    encode_refused x.segment.now x.«data».now x.version x.output.now x.answer.now misspelled
+    (stop misspelled (passed_2 x.segment.now x.answer.now (omega arith) c.if-answer-lt-WRITTEN_OCTETS.false)
+    (ap not (sym c.get_segment-read.ensures.0) ∙ c.if-not-read.true))
+
+pub returns : goal.returns
+returns c =
+    let x = c.args in
+    let g = c.get_segment-read in
+    c.encode_into.ensures
+    ∙ encode_passed x.segment.now x.«data».now x.version x.output.now x.answer.now g.result.segment
+    (skip (passed_2 x.segment.now x.answer.now (omega arith) c.if-answer-lt-WRITTEN_OCTETS.false) (ap not (sym g.ensures.0) ∙ c.if-not-read.false)).rest
+    g.ensures.1

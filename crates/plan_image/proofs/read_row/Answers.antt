@@ -1,0 +1,11 @@
+-- `plan_image::read_row` meets its contract, number by number. Assumes nothing.
+use Rattle.plan_image.specs.Row.{row_read}
+use Rattle.plan_image.proofs.read_row.Goals as goal
+
+pub returns : goal.returns
+returns c =
+    let x = c.args in
+    let a = c.number64-first in
+    let b = c.number64-second in
+    let d = c.number64-third in
+    row_read x.l.now x.at a.result b.result d.result a.ensures.reads b.ensures.reads d.ensures.reads

@@ -1,0 +1,10 @@
+-- `receiver_image::heads::read_terms` meets its contract: each part is read by its own octets. Assumes nothing.
+use Rattle.image.specs.Spelling.{rest_of}
+use Rattle.receiver_image.specs.Heads.{terms_of}
+use Rattle.receiver_image.proofs.heads.read_terms.Goals as goal
+
+pub returns : goal.returns
+unfolding terms_of
+returns c =
+    let l = c.args.l.now in
+    rw (c.number64-maximum.ensures.reads, c.read_protocol-protocol.ensures, rest_of 10 l, c.get_peer-peer.ensures.0)

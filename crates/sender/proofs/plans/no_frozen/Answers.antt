@@ -1,0 +1,10 @@
+-- `sender::plans::no_frozen` meets its contract: 256 empty heads are those that a plan of no segments keeps. Assumes nothing.
+use mathlib.Core.Path.{ap}
+use mathlib.Core.List.{List}
+use Rattle.tsar.specs.declared.AcknowledgmentWindow.TheVariants.{Prohibited}
+use Rattle.tsar.specs.declared.SegmentHead.{SegmentHead}
+use Rattle.segmentation.specs.Heads.{none_kept}
+use Rattle.sender.proofs.plans.no_frozen.Goals as goal
+
+pub returns : goal.returns
+returns c = ap (λ (h : List SegmentHead). record { heads = h; count = 0; message_octets = 0; payload_budget_octets = 0; acknowledgment_window = Prohibited }) (none_kept c.no_head-heads.result c.no_head-heads.ensures)

@@ -1,0 +1,16 @@
+-- `sender_image::states::lower_of` meets its contract: each arm is an entry of the table, and past the table it is the first. Assumes nothing.
+use mathlib.Core.Path.{ap, sym}
+use Prim.Native.Nat.{ℕ}
+use native.Mathlib.Omega.{arith}
+use lib.ListN.{get_or-eq_default}
+use Rattle.sender.specs.declared.LowerLayerFailure.TheVariants.{Rejected}
+use Rattle.sender_image.specs.States.{lowers, lower_of}
+use Rattle.sender_image.proofs.states.lower_of.Goals as goal
+
+pub returns-in-0 : goal.returns-in-0
+returns-in-0 c = sym (ap (λ (n : ℕ). lower_of n c.args.cause) c.in-0.is)
+
+pub returns-in_default : goal.returns-in_default
+returns-in_default c =
+    let x = c.args in
+    sym (get_or-eq_default (lowers x.cause) (Rejected x.cause) {n = x.n} (omega arith))

@@ -1,0 +1,15 @@
+-- `tsar::decode::two_octets` meets its contract: an octet is below 256, so the sum fits 16 bits. Assumes nothing.
+use native.Mathlib.Omega.{arith}
+use Rattle.tsar.proofs.decode.two_octets.Goals as goal
+
+pub overflow_cast-result : goal.overflow_cast-result
+overflow_cast-result c = omega (arith, c.shared_slice_known-1.given 0)
+
+pub overflow_mul-result : goal.overflow_mul-result
+overflow_mul-result c = omega (arith, c.shared_slice_known-1.given 0)
+
+pub overflow_cast-result-2 : goal.overflow_cast-result-2
+overflow_cast-result-2 c = omega (arith, c.shared_slice_known-2-1.given 1, c.shared_slice_known-1.given 0)
+
+pub overflow_add-result : goal.overflow_add-result
+overflow_add-result c = omega (arith, c.shared_slice_known-2-1.given 1, c.shared_slice_known-1.given 0)
