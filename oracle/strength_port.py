@@ -4,8 +4,8 @@ that of profile 1 and where it finds nothing that of profile 2, and says which e
 
 strength_port.py [NAMES]   NAMES: the beginnings of names of errors (c01, r, s1); all errors if none is given.
 
-It works in a temporary folder and changes nothing here. It needs the kit's rattle-cases, which compiles Rattle that is not proved. Status 1: an
-error was missed, or one no longer fits the code."""
+It works in a temporary folder and changes nothing here. It needs a kit with rattle-cases, which compiles a library that is not proved; a kit that
+builds only what is proved has none (docs/PORT.md), and then it stops. Status 1: an error was missed, or one no longer fits the code."""
 import os, shutil, subprocess, sys, tempfile
 HERE = os.path.dirname(os.path.abspath(__file__))
 REPOSITORY = os.path.dirname(HERE)
@@ -13,7 +13,7 @@ SECONDS = 300
 # Where one round of both drivers finds nothing, they run as many as make more than two million calls of the machines each.
 MORE_ROUNDS = 9
 # The crates that export an entry.
-EXPORTS = ['catkhize', 'train_c']
+EXPORTS = ['catkhize', 'train_c_c']
 
 ERRORS = []
 
@@ -847,9 +847,13 @@ error('e03 a number that names no case is 82', O, 'pub const UNNAMED: u32 = 6604
 
 
 def kit():
-    """The kit's folder, and that of this kind of machine in it."""
-    home = os.path.dirname(os.path.dirname(subprocess.run(['rt', 'doc'], capture_output=True, text=True, check=True).stdout.strip()))
-    return home, os.path.join(home, 'on', os.uname().machine)
+    """The kit's folder: the page to read first lies in it."""
+    return os.path.dirname(subprocess.run(['rt', 'doc'], capture_output=True, text=True, check=True).stdout.strip())
+
+
+def compiler():
+    """The program that compiles without proof."""
+    return os.path.join(kit(), 'bin/rattle-cases')
 
 
 def dependencies():
@@ -858,7 +862,7 @@ def dependencies():
     for line in open(os.path.join(REPOSITORY, 'crates.txt')):
         name, _, rest = line.partition(':')
         if rest and not name.startswith('#'):
-            found[name.strip()] = rest.split()
+            found[name.split()[0]] = rest.split()
     return found
 
 
@@ -878,14 +882,14 @@ def reached(name, uses):
 
 def compile_exports(crates, folder):
     """The exports of a copy of crates/ as a shared library, so that the driver needs no new link. Gives what the compiler says against it."""
-    home, own = kit()
+    home = kit()
     archives = []
     for name in EXPORTS:
         archive = os.path.join(os.path.dirname(folder), f'lib{name}.a')  # not beside the shared library: the driver would be linked with it
         if os.path.exists(archive):
             os.remove(archive)
-        words = [os.path.join(own, 'bin/rattle-cases'), '--toolchain', os.path.join(own, 'toolchain'), '--staticlib', archive,
-                 f'{crates}/{name}/src/lib.rt', '--crate-name', name, '--lib', f'std={home}/libs/std/src/lib.rt']
+        words = [compiler(), '--toolchain', os.path.join(home, 'toolchain'), '--staticlib', archive,
+                 f'{crates}/{name}/src/lib.rt', '--crate-name', name, '--lib', f'std={home}/rattle/std/src/lib.rt']
         for below in reached(name, dependencies()):
             words += ['--lib', f'{below}={crates}/{below}/src/lib.rt']
         made = subprocess.run(words, capture_output=True, text=True)
@@ -952,6 +956,8 @@ def run_driver(root, library, profile, areas, rounds):
 
 def main():
     wanted = sys.argv[1:]
+    if not os.path.exists(compiler()):
+        sys.exit(f'{compiler()} is not there: this kit builds no library that is not proved, so no error can be tried')
     root = tempfile.mkdtemp(prefix='strength-')
     library = os.path.join(root, 'library')
     crates = os.path.join(root, 'crates')
