@@ -5,7 +5,7 @@ use mathlib.Core.Path.{◌≡◌, refl, sym, ap, ap₂, ◌∙◌}
 use mathlib.Core.Bool.{Bool, true, false, cond}
 use mathlib.Core.Logic.{⊎_elim}
 use mathlib.Core.List.{List, []}
-use mathlib.Core.Option.{some}
+use Rattle.std.specs.Prelude.{Some}
 use native.Mathlib.Omega.{arith}
 use borrow.Author.Tests.{lt-ltb, le-ltb, eq-eqb, ne_eqb}
 use lib.Dec.{eqb}
@@ -42,7 +42,7 @@ module _ (memory store : List ℕ) where
       (λ (h : length memory < 3931). sym (refuses h (number_at 8 memory 51)) ∙ refuses h (record_of memory).progress.last_monotonic_ms)
       (le_or_lt 3931 (length memory))
 
-  too_short : length memory < 3931 → refusal (closing_tests memory) ≡ some short
+  too_short : length memory < 3931 → refusal (closing_tests memory) ≡ Some short
   too_short h = stop short (start (closing_tests memory)) (lt-ltb (length memory) 3931 h)
 
   cancel_at_last : cancel_call memory store (number_at 8 memory 51) ≡ cancel_call memory store (record_of memory).progress.last_monotonic_ms

@@ -7,7 +7,7 @@ use mathlib.Core.Path.{◌≡◌, refl, sym, ap, ap₂, ◌∙◌, subst}
 use mathlib.Core.Bool.{Bool, true, false, cond, not, ◌&&◌, ◌||◌, true≢false}
 use mathlib.Core.Logic.{⊎_elim}
 use mathlib.Core.List.{List, [], ◌++◌}
-use mathlib.Core.Option.{none, some}
+use Rattle.std.specs.Prelude.{Option, Some, None}
 use native.Mathlib.Omega.{arith}
 use borrow.Author.Tests.{le-ltb, eqb-true, not-true, not-false}
 use lib.Dec.{eqb}
@@ -21,8 +21,6 @@ use Rattle.words.specs.Search.{all_below_true}
 use Rattle.tsar.specs.Rows.{refusal, refusal_pass, any_none}
 use Rattle.receiver.specs.declared.ReceiverState.{ReceiverState}
 use Rattle.receiver.specs.declared.ReceiverState.TheVariants.{AwaitingBegin, Receiving, Complete, Failed, Expired, Canceled}
-use Rattle.receiver.specs.declared.Deadline.{Deadline}
-use Rattle.receiver.specs.declared.Deadline.TheVariants as deadline
 use Rattle.receiver.specs.declared.Receiver.{Receiver}
 use Rattle.receiver.specs.Record.{taking, awaiting, receiving, complete, receiving_or_complete, running, store_octets, sum_to, held_length, wiped, faults, impossible, closed}
 use Rattle.receiver.specs.Answers.{Step}
@@ -55,9 +53,9 @@ second_fails : (a b : Bool) → a ≡ false → (not a && b) ≡ false → b ≡
 second_fails true b e h = absurd (true≢false e)
 second_fails false b e h = h
 
-not_running : (d : Deadline) → running d ≡ false → d ≡ deadline.Off
-not_running deadline.Off e = refl
-not_running (deadline.At t) e = absurd (true≢false e)
+not_running : (d : Option ℕ) → running d ≡ false → d ≡ None
+not_running None e = refl
+not_running (Some t) e = absurd (true≢false e)
 
 unheld : (held : Words) → all_below 256 (λ t. not (marked held t)) ≡ true → (s : ℕ) → marked held s ≡ false
 unheld held e s =
@@ -88,7 +86,7 @@ already_closed r ok e =
 -- ---- one that takes segments: at its own last reading no row holds but that of the state (receiver's proofs/Closing)
 
 -- what is left then
-leaves : (r : Receiver) (memory store : List ℕ) (n : ℕ) → taking r.progress.state ≡ true → LeavesClosed r store (step_call no_octets memory [] (cancel_after none r store n))
+leaves : (r : Receiver) (memory store : List ℕ) (n : ℕ) → taking r.progress.state ≡ true → LeavesClosed r store (step_call no_octets memory [] (cancel_after None r store n))
 leaves r memory store n e =
     record {
       done = refl;
@@ -111,15 +109,15 @@ module _ (r : Receiver) (fits : ReceiverFits r) (rest : List ℕ) where
   reads_back = receiver_layout.back r fits rest
 
   -- the exports' own tests pass
-  tested : refusal (closing_tests (image_of r ++ rest)) ≡ none
+  tested : refusal (closing_tests (image_of r ++ rest)) ≡ None
   tested =
       let a = length-append (image_of r) rest in
       let b = receiver_layout.wide r fits in
       refusal_pass (closing_tests (image_of r ++ rest)) (le-ltb (length (image_of r ++ rest)) 3931 (omega arith), (ap not (spelled_ok receiver_layout r fits rest), tt))
 
-  still_spelled : spelled_by (image_of r ++ rest) ≡ some r
+  still_spelled : spelled_by (image_of r ++ rest) ≡ Some r
   unfolding spelled_by
-  still_spelled = ap (λ (b : Bool). cond b (some (record_of (image_of r ++ rest))) none) (spelled_ok receiver_layout r fits rest) ∙ ap some reads_back
+  still_spelled = ap (λ (b : Bool). cond b (Some (record_of (image_of r ++ rest))) None) (spelled_ok receiver_layout r fits rest) ∙ ap Some reads_back
 
   -- nothing is done with a receiver that takes no segments
   stays : (store : List ℕ) → impossible r ≡ false → taking r.progress.state ≡ false → LeavesClosed r store (unchanged (image_of r ++ rest) store)
@@ -140,7 +138,7 @@ module _ (r : Receiver) (fits : ReceiverFits r) (rest : List ℕ) where
       ∙ ap (λ (x : Receiver). closing_call_of x (image_of r ++ rest) store) reads_back
 
   -- the call of a step that is not refused
-  steps : (store : List ℕ) (n : ℕ) (z : Step) (c : Call) → taking r.progress.state ≡ true → z ≡ cancel_after none r store n → step_call no_octets (image_of r ++ rest) [] z ≡ c
+  steps : (store : List ℕ) (n : ℕ) (z : Step) (c : Call) → taking r.progress.state ≡ true → z ≡ cancel_after None r store n → step_call no_octets (image_of r ++ rest) [] z ≡ c
       → LeavesClosed r store c
   steps store n z c e d q =
       subst (LeavesClosed r store) (ap (step_call no_octets (image_of r ++ rest) []) (sym d) ∙ q) (leaves r (image_of r ++ rest) store n e)

@@ -4,7 +4,7 @@
 use Prim.Native.Nat.{ℕ, ◌+◌, ◌^◌, ◌<◌}
 use mathlib.Core.Path.{◌≡◌, refl, sym, ap, ap₂, ◌∙◌}
 use mathlib.Core.Bool.{Bool, true, false, cond}
-use mathlib.Core.Option.{Option, none, some}
+use Rattle.std.specs.Prelude.{Option, Some, None}
 use mathlib.Core.List.{List, [], ◌∷◌, ◌++◌, append-nil, append_assoc}
 use native.Mathlib.Omega.{arith}
 use borrow.Author.Tests.{le-ltb}
@@ -24,16 +24,18 @@ use Rattle.receiver_answers.specs.Answers.{reply_image, message_image, reception
 use Rattle.receiver_image.specs.Parts.{state_number, state_image}
 use Rattle.receiver_image.specs.Heads.{head_image, terms_image, standing_image, progress_image}
 use Rattle.receiver_image.specs.Images.{image_of}
-use Rattle.report.specs.declared.outcome.Handed.{Handed}
-use Rattle.report.specs.declared.outcome.Handed.TheVariants as handed
 use Rattle.report.specs.declared.outcome.Event.{Event}
 use Rattle.report.specs.declared.outcome.Event.TheVariants as event
 use Rattle.report.specs.Outcome.{number_at, handed_in, call_event, missing_in, first_missing_in}
 
+-- what an event has of it
+abbrev pub Handed : Type 0
+Handed = Option ℕ
+
 -- what a call's message is
 abbrev pub handed_of : Option ℕ → Handed
-handed_of none = handed.Nothing
-handed_of (some n) = handed.Octets n
+handed_of None = None
+handed_of (Some n) = Some n
 
 abbrev pub is_failed : ReceiverState → Bool
 is_failed AwaitingBegin = false
@@ -45,8 +47,8 @@ is_failed Canceled = false
 
 -- a number of octets is one of 64 bits
 abbrev pub MessageFits : Option ℕ → Type 0
-MessageFits none = Unit {0}
-MessageFits (some n) = n < 256 ^ 8
+MessageFits None = Unit {0}
+MessageFits (Some n) = n < 256 ^ 8
 
 -- ---- the message, behind the 46 octets of a reply
 
@@ -60,8 +62,8 @@ response_wide x =
 
 reply_wide : (r : Option Reported) → length (reply_image r) ≡ 46
 unfolding reply_image
-reply_wide none = refl
-reply_wide (some x) =
+reply_wide None = refl
+reply_wide (Some x) =
     let a : length (1 ∷ response_image x.response) ≡ 42 = response_wide x in
     let b = length_spell 2 x.missing.count in
     let c = length_spell 2 x.missing.first in
@@ -79,21 +81,21 @@ behind_flag r m = sym (drop-drop 1 46 (reception_image r m)) ∙ ap (drop 1) (be
 
 -- the flag and the number that follows it, as they are read
 read_handed : List ℕ → List ℕ → Handed
-read_handed flag rest = cond (eqb (get_or flag 0 0) 0) handed.Nothing (handed.Octets (cond (ltb (length rest) 8) 0 (number_of 8 rest)))
+read_handed flag rest = cond (eqb (get_or flag 0 0) 0) None (Some (cond (ltb (length rest) 8) 0 (number_of 8 rest)))
 
 spelled_number : (n : ℕ) → n < 256 ^ 8 → number_of 8 (spell 8 n) ≡ n
 spelled_number n h = ap (number_of 8) (sym (append-nil (spell 8 n))) ∙ number_back 8 n [] h
 
 message_read : (m : Option ℕ) → MessageFits m → read_handed (message_image m) (drop 1 (message_image m)) ≡ handed_of m
 unfolding message_image read_handed
-message_read none f = refl
-message_read (some n) f =
-    ap (λ (k : ℕ). handed.Octets (cond (ltb k 8) 0 (number_of 8 (spell 8 n)))) (length_spell 8 n) ∙ ap handed.Octets (spelled_number n f)
+message_read None f = refl
+message_read (Some n) f =
+    ap (λ (k : ℕ). Some (cond (ltb k 8) 0 (number_of 8 (spell 8 n)))) (length_spell 8 n) ∙ ap Some (spelled_number n f)
 
 handed_read : (r : Option Reported) (m : Option ℕ) → MessageFits m → handed_in (reception_image r m) ≡ handed_of m
 unfolding read_handed
 handed_read r m f =
-    ap₂ {C = Handed} (λ (x : ℕ) (l : List ℕ). cond (eqb x 0) handed.Nothing (handed.Octets (cond (ltb (length l) 8) 0 (number_of 8 l)))) (flag_at r m) (behind_flag r m)
+    ap₂ {C = Handed} (λ (x : ℕ) (l : List ℕ). cond (eqb x 0) None (Some (cond (ltb (length l) 8) 0 (number_of 8 l)))) (flag_at r m) (behind_flag r m)
     ∙ message_read m f
 
 -- ---- the figures, behind the flag and the 41 octets of a response
@@ -106,7 +108,7 @@ number_there w n rest l at e h =
     ∙ ap (λ (b : Bool). cond b 0 (number_of w (spell w n ++ rest))) (le-ltb (length (spell w n ++ rest)) w (omega arith))
     ∙ number_back w n rest h
 
-behind_response : (x : Reported) (m : Option ℕ) → drop 42 (reception_image (some x) m) ≡ spell 2 x.missing.count ++ (spell 2 x.missing.first ++ message_image m)
+behind_response : (x : Reported) (m : Option ℕ) → drop 42 (reception_image (Some x) m) ≡ spell 2 x.missing.count ++ (spell 2 x.missing.first ++ message_image m)
 unfolding reception_image reply_image
 behind_response x m =
     let front : List ℕ = 1 ∷ response_image x.response in
@@ -121,9 +123,9 @@ MissingFits x = (x.count < 256 ^ 2) × (x.first < 256 ^ 2)
 
 -- those that the program reads are those that the call answered
 pub figures_read : (x : Reported) (m : Option ℕ) → MissingFits x.missing
-    → (missing_in (reception_image (some x) m) ≡ x.missing.count) × (first_missing_in (reception_image (some x) m) ≡ x.missing.first)
+    → (missing_in (reception_image (Some x) m) ≡ x.missing.count) × (first_missing_in (reception_image (Some x) m) ≡ x.missing.first)
 figures_read x m f =
-    let l = reception_image (some x) m in
+    let l = reception_image (Some x) m in
     let count = spell 2 x.missing.count in
     let rest = spell 2 x.missing.first ++ message_image m in
     let behind = sym (drop-drop 2 42 l) ∙ ap (drop 2) (behind_response x m) ∙ drop_at count rest 2 (length_spell 2 x.missing.count) in

@@ -1,13 +1,11 @@
 -- What becomes of a section's receiver before the next section opens over its store (document 02, 2026-07; docs/CAPTURE.md, 'Sections'): one
 -- that is Complete is released, one that is AwaitingBegin or Receiving is canceled, each at the record's own last reading. Nothing is done
 -- where it takes no segments any more, or where none was made.
-use Rattle.std.specs.Prelude.{ℕ, ◌≡◌, Bool, true, false, cond, ◌&&◌, List, [], eqb, get_or, replicate}
-use Rattle.std.proofs.Math.Option.{some}
+use Rattle.std.specs.Prelude.{ℕ, ◌≡◌, Bool, true, false, cond, ◌&&◌, List, [], eqb, get_or, replicate, Some, None}
 use Rattle.octets.specs.Octets.{same_octets}
 use Rattle.words.specs.Marks.{marked}
 use Rattle.receiver.specs.declared.ReceiverState.{ReceiverState}
 use Rattle.receiver.specs.declared.ReceiverState.TheVariants.{AwaitingBegin, Receiving, Complete, Failed, Expired, Canceled}
-use Rattle.receiver.specs.declared.Deadline.TheVariants as deadline
 use Rattle.receiver.specs.declared.Receiver.{Receiver}
 use Rattle.receiver.specs.Record.{taking, store_octets, wiped}
 use Rattle.receiver_image.specs.Images.{record_of}
@@ -43,27 +41,24 @@ pub record Closed (r : Receiver) : Type 0 where
   pub takes_none : taking r.progress.state ≡ false
   pub holds_none : (s : ℕ) → marked r.held s ≡ false
   pub counts_none : r.progress.stored_octets ≡ 0
-  pub waits_not : r.progress.deadline_monotonic_ms ≡ deadline.Off
+  pub waits_not : r.progress.deadline_monotonic_ms ≡ None
 
 -- of a receiver r and a store: the call is not refused, the octets after it spell a closed receiver, and the store is wiped where r took
 -- segments, and else as it was
 pub record LeavesClosed (r : Receiver) (store : List ℕ) (c : Call) : Type 0 where
   pub done : c.code ≡ 0
   pub left : Receiver
-  pub spelled : c.receiver ≡ some left
+  pub spelled : c.receiver ≡ Some left
   pub closed : Closed left
   pub wipes : taking r.progress.state ≡ true → c.store ≡ wiped store
   pub keeps : taking r.progress.state ≡ false → c.store ≡ store
 
 -- ---- what is told of it
 
--- the octet of the memory that is not 0 where a receiver line opened a section (session::OPENED)
-abbrev pub opened_at : ℕ
-opened_at = 4004
-
--- with the section ended that there is: one that was opened, or the lines before the first receiver line where one of them was refused
-abbrev pub ended_before : Told → (memory : List ℕ) → Told
-ended_before t memory = cond (eqb (get_or memory opened_at 0) 0) (cond t.section.bad_line (ended t) t) (ended t)
+-- with the section ended that there is: one that a receiver line opened, or the lines before the first receiver line where one of them was
+-- refused
+abbrev pub ended_before : Told → (opened : Bool) → Told
+ended_before t opened = cond opened (ended t) (cond t.section.bad_line (ended t) t)
 
 -- a store that is 0 throughout
 unfoldable pub zeros : List ℕ

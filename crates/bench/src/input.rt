@@ -1,104 +1,75 @@
-// Reading lines: octets come by chunks, and a line is put together in lent octets.
+// Reading lines: octets come by chunks, and a line is put together in fixed octets.
 use capture::text::{Class, from, front, run};
 use std::io;
 use std::io::Read;
 
-// What reading has come to: a part of a line, a line, or the end of the input.
-pub const PART: u8 = 0;
-
-pub const LINE: u8 = 1;
-
-pub const END: u8 = 2;
-
-pub const CHUNK: usize = 65536;
-
-pub type Chunk = [u8; CHUNK];
+const CHUNK: usize = 65536;
 
 // The longest line.
 pub const MAX_LINE: usize = 8192;
 
-pub type Text = [u8; MAX_LINE];
-
 // Where reading stands: octets at to end of the chunk are not used yet, and the line has so many octets so far, of which the first stand in
-// the lent octets, as far as they go.
-#[derive(Clone, Copy)]
+// its octets, as far as they go.
+#[derive(Drop)]
 pub struct Input {
-    pub at: usize,
-    pub end: usize,
-    pub have: usize,
-    pub got: u8,
-}
-
-fn plus(a: usize, b: usize) -> usize {
-    if usize::MAX - a < b {
-        return usize::MAX;
-    }
-    a + b
-}
-
-// What the input ends with: a line without a line feed, or nothing.
-fn last(have: usize) -> u8 {
-    if have == 0 { END } else { LINE }
+    chunk: [u8; CHUNK],
+    at: usize,
+    end: usize,
+    line: [u8; MAX_LINE],
+    have: usize,
 }
 
 impl Input {
-    pub fn start() -> Input {
+    pub fn new() -> Input {
         Input {
+            chunk: [0; CHUNK],
             at: 0,
             end: 0,
+            line: [0; MAX_LINE],
             have: 0,
-            got: LINE,
         }
     }
 
-    // Takes the octets up to a line feed, or up to the end of the chunk.
-    fn take(mut self, chunk: &Chunk, line: &mut Text) -> Input {
-        let rest = from(front(chunk, self.end), self.at);
+    // The line, as far as it is kept.
+    pub fn line(&self) -> &[u8] {
+        front(&self.line, self.have)
+    }
+
+    // Takes the octets up to a line feed, or up to the end of the chunk, and says whether the line has ended.
+    fn take(&mut self) -> bool {
+        let rest = from(front(&self.chunk, self.end), self.at);
         let k = run(Class::Line, rest);
-        octets::put(line, self.have, front(rest, k));
-        self.have = plus(self.have, k);
-        if k < rest.len() {
-            self.at = plus(self.at, k + 1);
-            self.got = LINE;
-            return self;
-        }
-        self.at = self.end;
-        self
+        let ended = k < rest.len();
+        octets::put(&mut self.line, self.have, front(rest, k));
+        self.have = self.have.saturating_add(k);
+        self.at = if ended {
+            self.at.saturating_add(k + 1)
+        } else {
+            self.end
+        };
+        ended
     }
 
-    fn read(mut self, file: &mut impl Read, chunk: &mut Chunk) -> io::Result<Input> {
-        self.end = file.read(chunk)?;
+    // Reads another chunk, and says whether there is one.
+    fn read(&mut self, file: &mut impl Read) -> io::Result<bool> {
+        self.end = file.read(&mut self.chunk)?;
         self.at = 0;
-        if self.end == 0 {
-            self.got = last(self.have);
-        }
-        Ok(self)
+        Ok(self.end != 0)
     }
 
-    // Takes what is left of the chunk, or reads another.
-    fn step(self, file: &mut impl Read, chunk: &mut Chunk, line: &mut Text) -> io::Result<Input> {
-        if self.at < self.end {
-            return Ok(self.take(chunk, line));
+    // The length of the next line. A line ends, but nothing says so: the turns are counted up to a number that no line uses up. `rt.forever()` takes
+    // Wait, which HANDLES does not allow.
+    pub fn next_line(&mut self, file: &mut impl Read) -> io::Result<Option<usize>> {
+        self.have = 0;
+        for _ in 0..u64::MAX {
+            if self.at < self.end {
+                if self.take() {
+                    return Ok(Some(self.have));
+                }
+            } else if !self.read(file)? {
+                return Ok((self.have != 0).then_some(self.have));
+            }
         }
-        self.read(file, chunk)
+        Ok(None)
     }
-}
-
-// The next line. A line ends, but nothing says so: the turns are counted up to a number that no line uses up.
-pub fn next_line(
-    input: Input,
-    file: &mut impl Read,
-    chunk: &mut Chunk,
-    line: &mut Text,
-) -> io::Result<Input> {
-    let mut input = input;
-    input.have = 0;
-    input.got = PART;
-    for _ in 0..u64::MAX {
-        if input.got != PART {
-            break;
-        }
-        input = input.step(file, chunk, line)?;
-    }
-    Ok(input)
 }

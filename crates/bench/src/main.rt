@@ -9,50 +9,53 @@ mod session;
 
 use capture::text::front;
 use report::outcome::{Event, Told, end_section, is_every, note, start};
-use report::say;
-use session::{Counts, more};
+use session::Counts;
 use std::env::FillError;
 use std::rt::{Env, Files};
 use std::str::from_utf8;
-use std::{fs, io};
+use std::{fmt, fs, io};
 
 // The longest path.
 const PATH: usize = 4096;
 
 type Path = [u8; PATH];
 
-// What an argument is: a file, standard input, an option, or nothing that may stand there.
-const FILE: u8 = 0;
+// What an argument is.
+#[derive(Clone, Copy)]
+enum Argument {
+    File,
+    Stdin,
+    Help,
+    AsRecorded,
+}
 
-const DASH: u8 = 1;
+// Why an argument may not stand there.
+#[derive(Clone, Copy)]
+enum ArgumentFault {
+    NoOption,
+    Empty,
+    TooLong,
+}
 
-const HELP: u8 = 2;
-
-const AS_RECORDED: u8 = 3;
-
-const NO_OPTION: u8 = 4;
-
-const EMPTY: u8 = 5;
-
-const TOO_LONG: u8 = 6;
-
-fn kind_of(word: &[u8]) -> u8 {
-    if word.len() == 0 {
-        return EMPTY;
+impl fmt::Display for ArgumentFault {
+    fn fmt<W: fmt::Write>(&self, f: &mut fmt::Formatter<W>) -> fmt::Result {
+        f.write_str(match self {
+            ArgumentFault::NoOption => "there is no such option",
+            ArgumentFault::Empty => "an empty argument names no capture",
+            ArgumentFault::TooLong => "an argument is too long for a path",
+        })
     }
-    if word[0] != b'-' {
-        return FILE;
+}
+
+fn kind_of(word: &[u8]) -> Result<Argument, ArgumentFault> {
+    match word {
+        [] => Err(ArgumentFault::Empty),
+        [b'-'] => Ok(Argument::Stdin),
+        [b'-', ..] if octets::same(word, b"--help") => Ok(Argument::Help),
+        [b'-', ..] if octets::same(word, b"--as-recorded") => Ok(Argument::AsRecorded),
+        [b'-', ..] => Err(ArgumentFault::NoOption),
+        _ => Ok(Argument::File),
     }
-    if word.len() == 1 {
-        return DASH;
-    }
-    if octets::same(word, b"--help") {
-        return HELP;
-    }
-    if octets::same(word, b"--as-recorded") {
-        return AS_RECORDED;
-    }
-    NO_OPTION
 }
 
 // How many arguments there are, the program's name among them.
@@ -66,31 +69,32 @@ fn argument_count(rt: &impl Env) -> usize {
     usize::MAX
 }
 
-fn argument_kind(rt: &impl Env, i: usize) -> u8 {
+fn argument_kind(rt: &impl Env, i: usize) -> Result<Argument, ArgumentFault> {
     let mut path = [0u8; PATH];
     match rt.arg(i, &mut path) {
         Ok(n) => kind_of(front(&path, n)),
-        Err(_) => TOO_LONG,
+        Err(_) => Err(ArgumentFault::TooLong),
     }
 }
 
-// What the arguments ask for: help; the bench's own advances; how many captures; and what is wrong with one, FILE where nothing is.
+// What the arguments ask for: help; the bench's own advances; how many captures; and what is wrong with the last that is.
 #[derive(Clone, Copy)]
 struct Options {
     help: bool,
     waits: bool,
     captures: u64,
-    wrong: u8,
+    wrong: Option<ArgumentFault>,
 }
 
 impl Options {
-    fn with(mut self, kind: u8) -> Options {
+    fn with(mut self, kind: Result<Argument, ArgumentFault>) -> Options {
         match kind {
-            FILE => self.captures = more(self.captures),
-            DASH => self.captures = more(self.captures),
-            HELP => self.help = true,
-            AS_RECORDED => self.waits = false,
-            _ => self.wrong = kind,
+            Ok(Argument::File | Argument::Stdin) => {
+                self.captures = self.captures.saturating_add(1);
+            }
+            Ok(Argument::Help) => self.help = true,
+            Ok(Argument::AsRecorded) => self.waits = false,
+            Err(fault) => self.wrong = Some(fault),
         }
         self
     }
@@ -101,7 +105,7 @@ fn asked(rt: &impl Env, count: usize) -> Options {
         help: false,
         waits: true,
         captures: 0,
-        wrong: FILE,
+        wrong: None,
     };
     for i in 1..count {
         options = options.with(argument_kind(rt, i));
@@ -137,8 +141,7 @@ fn at_path(
         Ok(mut file) => run::capture(rt, told, waits, &mut file, counts),
         Err(e) => {
             say_failed(rt, path, e)?;
-            say::say(rt, say::NOT_OPENED, 0, 0)?;
-            say::end_line(rt)?;
+            println!(rt; "not rebuilt, the capture cannot be opened")?;
             Ok(end_section(note(told, Event::BadLine)))
         }
     }
@@ -146,9 +149,9 @@ fn at_path(
 
 fn say_heading(rt: &impl Print, several: bool, path: &[u8]) -> io::Result<()> {
     if several {
-        say::say(rt, say::HEADING, 0, 0)?;
-        say::print(rt, path)?;
-        say::end_line(rt)?;
+        print!(rt; "== ")?;
+        rt.write_all(path)?;
+        println!(rt)?;
     }
     Ok(())
 }
@@ -159,7 +162,7 @@ fn from_stdin(
     waits: bool,
     counts: &mut Counts,
 ) -> io::Result<Told> {
-    counts[session::CAPTURES] = more(counts[session::CAPTURES]);
+    counts.captures = counts.captures.saturating_add(1);
     run::capture(rt, told, waits, &mut rt.reader(), counts)
 }
 
@@ -174,17 +177,18 @@ fn named(
 ) -> io::Result<Told> {
     let mut path = [0u8; PATH];
     let n = rt.arg(i, &mut path).unwrap_or(0);
-    let kind = kind_of(front(&path, n));
-    if kind == DASH {
-        say_heading(rt, several, b"standard input")?;
-        return from_stdin(rt, told, waits, counts);
+    match kind_of(front(&path, n)) {
+        Ok(Argument::Stdin) => {
+            say_heading(rt, several, b"standard input")?;
+            from_stdin(rt, told, waits, counts)
+        }
+        Ok(Argument::File) => {
+            say_heading(rt, several, front(&path, n))?;
+            counts.captures = counts.captures.saturating_add(1);
+            at_path(rt, told, waits, front(&path, n), counts)
+        }
+        _ => Ok(told),
     }
-    if kind != FILE {
-        return Ok(told);
-    }
-    say_heading(rt, several, front(&path, n))?;
-    counts[session::CAPTURES] = more(counts[session::CAPTURES]);
-    at_path(rt, told, waits, front(&path, n), counts)
 }
 
 fn all(
@@ -203,50 +207,25 @@ fn all(
 
 // The last line.
 fn say_end(rt: &impl Print, told: Told, counts: &Counts) -> io::Result<()> {
-    say::say(rt, say::END, counts[session::CAPTURES], 0)?;
-    say::say(
-        rt,
-        say::END + 1,
-        counts[session::ALL_SECTIONS],
-        counts[session::ALL_REBUILT],
-    )?;
-    let results = told.results;
-    if is_every(results) {
-        say::say(rt, say::RESULTS + 1, 0, 0)?;
+    let every = if is_every(told.results) {
+        "every record rebuilt"
     } else {
-        say::say(rt, say::RESULTS, 0, 0)?;
-    }
-    say::end_line(rt)
-}
-
-fn say_help(rt: &impl Print) -> io::Result<()> {
-    say::print(
-        rt,
-        b"bench [--as-recorded] [CAPTURE | -]..\n\
-        Rebuilds the records of captures (docs/CAPTURE.md). - is standard input, and so is no capture at all.\n\
-        Before a segment that comes past the deadline the program makes the advance at the deadline, as a bench does;\n\
-        --as-recorded leaves that out, so that only the calls of the capture are made.\n\
-        The last line starts with 'end: ' and ends in '; every record rebuilt' or '; not every record rebuilt'.\n",
+        "not every record rebuilt"
+    };
+    println!(rt;
+        "end: captures {}, sections {}, rebuilt {}; {every}",
+        counts.captures, counts.sections, counts.rebuilt
     )
 }
 
-fn say_error(rt: &impl Eprint, text: &str) -> io::Result<()> {
-    rt.eprint(text)
-}
-
-// An argument that is wrong: nothing is run.
-fn say_wrong(rt: &impl Eprint, kind: u8) -> io::Result<()> {
-    match kind {
-        EMPTY => say_error(
-            rt,
-            "bench: an empty argument names no capture; see --help\n",
-        ),
-        TOO_LONG => say_error(
-            rt,
-            "bench: an argument is too long for a path; see --help\n",
-        ),
-        _ => say_error(rt, "bench: there is no such option; see --help\n"),
-    }
+fn say_help(rt: &impl Print) -> io::Result<()> {
+    print!(rt;
+        "bench [--as-recorded] [CAPTURE | -]..\n\
+        Rebuilds the records of captures (docs/CAPTURE.md). - is standard input, and so is no capture at all.\n\
+        Before a segment that comes past the deadline the program makes the advance at the deadline, as a bench does;\n\
+        --as-recorded leaves that out, so that only the calls of the capture are made.\n\
+        The last line starts with 'end: ' and ends in '; every record rebuilt' or '; not every record rebuilt'.\n"
+    )
 }
 
 fn run_all(
@@ -254,7 +233,7 @@ fn run_all(
     count: usize,
     options: Options,
 ) -> io::Result<()> {
-    let mut counts = [0u64; session::COUNTS];
+    let mut counts = Counts::default();
     if options.captures == 0 {
         let told = from_stdin(rt, start(), options.waits, &mut counts)?;
         return say_end(rt, told, &counts);
@@ -269,8 +248,9 @@ fn main(rt: HostRuntime) -> io::Result<()> {
     if options.help {
         return say_help(&rt);
     }
-    if options.wrong != FILE {
-        return say_wrong(&rt, options.wrong);
+    // Where an argument is wrong, nothing is run.
+    if let Some(fault) = options.wrong {
+        return eprintln!(rt; "bench: {fault}; see --help");
     }
     run_all(&rt, count, options)
 }

@@ -1,149 +1,389 @@
-// The receiver of a section, and what the calls of its lines do. All that is known of it lies in lent octets, the memory: RECEIVER
-// (docs/EXPORTS.md), whose first octet is 0 before it is made, and behind it what the program keeps.
+// The receiver of a section, and what the calls of its lines do.
 ghost use Rattle.std.specs.Prelude.{◌≡◌, not, []};
 ghost use Rattle.receiver.specs.Record.{taking};
 ghost use Rattle.receiver_image.specs.Parts.{state_from};
 ghost use Rattle.receiver_c.specs.Calls.{call};
 ghost use Rattle.bench.specs.Closing.{close_call};
 
-use capture::line::Header;
+use crate::input::MAX_LINE;
+use capture::line::{Header, LineFault};
 use capture::text::{from, front};
 use codec_c::catkhize_decode;
 use codec_c::codes::DONE;
 use image::cases::{protocol_number, protocol_octet};
-use image::numbers::put64;
 use receiver_c::{
     catkhize_receiver_advance, catkhize_receiver_cancel, catkhize_receiver_new,
     catkhize_receiver_receive, catkhize_receiver_release,
 };
-use report::answer::{
-    say_answer, say_names, say_reception, say_refused, say_refused_segment, say_segment,
-};
+use report::answer::{say_answer, say_names, say_reception, say_refused_segment, say_segment};
+use report::layout;
 use report::layout::{CANCELED, EXPIRED, FAILED, number_at, octet};
 use report::marks::{MARKS_OCTETS, top};
-use report::outcome::{Event, call_event};
-use report::reason::reason_of;
-use report::{layout, say};
-use std::io;
+use report::outcome::{Event, Told, call_event};
+use report::reason::{Failure, reason_of};
+use report::refusal::{Refusal, outcome};
+use report::say::Counted;
+use std::{fmt, io};
 use tsar::HEADER_OCTETS;
 
-// What is kept behind RECEIVER: the marks that were last held; the reading of the last segment that was taken, behind a flag; why the
-// reception failed and at which line, as four numbers; whether a receiver line opened the section, and whether it could be read.
-pub const LAST_HELD: usize = layout::RECEIVER_OCTETS;
-
-pub const LAST_AT: usize = LAST_HELD + MARKS_OCTETS;
-
-pub const REASON: usize = LAST_AT + 9;
-
-pub const OPENED: usize = REASON + 32;
-
-pub const NAMED: usize = OPENED + 1;
-
-pub const MEMORY: usize = NAMED + 1;
-
-pub type Memory = [u8; MEMORY];
+// Every octet of the store and of the output before the first call.
+pub const FILL: u8 = 0xA5;
 
 // The most octets of a store and of an output.
 pub const STORE: usize = 65280;
 
 pub type Store = [u8; STORE];
 
-// RECEPTION, whose front is REPLY; DECODED; RECEIVER.
+// RECEPTION, whose front is REPLY; DECODED; RECEIVER (docs/EXPORTS.md).
 type Answer = [u8; layout::RECEPTION_OCTETS];
 
 type Decoded = [u8; layout::DECODED_OCTETS];
 
-type Before = [u8; layout::RECEIVER_OCTETS];
+type Receiver = [u8; layout::RECEIVER_OCTETS];
 
-// What is counted: of a capture its lines, the calls taken and refused, the lines refused, the sections and those rebuilt; and of all
-// captures how many there are, their sections and those rebuilt; and of the section the calls refused.
-pub const LINES: usize = 0;
-
-pub const CALLS_TAKEN: usize = 1;
-
-pub const CALLS_REFUSED: usize = 2;
-
-pub const LINES_REFUSED: usize = 3;
-
-pub const SECTIONS: usize = 4;
-
-pub const REBUILT: usize = 5;
-
-pub const CAPTURES: usize = 6;
-
-pub const ALL_SECTIONS: usize = 7;
-
-pub const ALL_REBUILT: usize = 8;
-
-pub const SECTION_REFUSED: usize = 9;
-
-pub const COUNTS: usize = 10;
-
-pub type Counts = [u64; COUNTS];
-
-// One more, as far as numbers go.
-pub fn more(n: u64) -> u64 {
-    if n < u64::MAX { n + 1 } else { n }
+// What is kept of a section: whether a receiver line opened it; that line, where it could be read; RECEIVER, whose first octet is 0 before it
+// is made; the marks that were last held; the reading of the last segment that was taken; why the reception failed.
+#[derive(Clone, Copy)]
+pub struct Section {
+    pub opened: bool,
+    pub header: Option<Header>,
+    pub receiver: Receiver,
+    pub last_held: [u8; MARKS_OCTETS],
+    pub last_at: Option<u64>,
+    pub failure: Option<Failure>,
 }
 
-// The first of two numbers less the second, or 0.
-fn less(a: u64, b: u64) -> u64 {
-    if b <= a { a - b } else { 0 }
-}
-
-// A line that is refused, and the form that says why.
-pub fn refuse(rt: &impl Print, why: usize, a: u64, counts: &mut Counts) -> io::Result<Event> {
-    say::say(rt, say::LINE_REFUSED, counts[LINES], 0)?;
-    say::say(rt, why, a, 0)?;
-    say::end_line(rt)?;
-    counts[LINES_REFUSED] = more(counts[LINES_REFUSED]);
-    Ok(Event::BadLine)
-}
-
-fn count_call(code: u32, counts: &mut Counts) {
-    if code == 0 {
-        counts[CALLS_TAKEN] = more(counts[CALLS_TAKEN]);
-        return;
-    }
-    counts[CALLS_REFUSED] = more(counts[CALLS_REFUSED]);
-    counts[SECTION_REFUSED] = more(counts[SECTION_REFUSED]);
-}
-
-// Keeps the marks that are held, unless there are none.
-fn keep_held(memory: &mut Memory) {
-    let mut held = [0u8; MARKS_OCTETS];
-    octets::put(&mut held, 0, from(memory, layout::HELD));
-    if top(&held) != 0 {
-        octets::put(memory, LAST_HELD, &held);
+impl Section {
+    pub fn new(opened: bool) -> Section {
+        Section {
+            opened,
+            header: None,
+            receiver: [0; layout::RECEIVER_OCTETS],
+            last_held: [0; MARKS_OCTETS],
+            last_at: None,
+            failure: None,
+        }
     }
 }
 
-// Ends the line of a call, and keeps what is to be kept.
-fn called(
-    rt: &impl Print,
-    code: u32,
-    answer: &Answer,
-    counts: &mut Counts,
-    memory: &mut Memory,
-) -> io::Result<Event> {
-    say::end_line(rt)?;
-    count_call(code, counts);
-    keep_held(memory);
-    Ok(call_event(answer, memory))
+// What is counted: of a capture its lines, the calls taken and refused, the lines refused, the sections and those rebuilt.
+#[derive(Clone, Copy, Default)]
+pub struct CaptureCounts {
+    pub lines: u64,
+    pub calls_taken: u64,
+    pub calls_refused: u64,
+    pub lines_refused: u64,
+    pub sections: u64,
+    pub rebuilt: u64,
 }
 
-// ---- the receiver line
+// And of all captures how many there are, their sections and those rebuilt; and of the section the calls refused.
+#[derive(Clone, Copy, Default)]
+pub struct Counts {
+    pub capture: CaptureCounts,
+    pub captures: u64,
+    pub sections: u64,
+    pub rebuilt: u64,
+    pub section_refused: u64,
+}
 
-fn make(h: Header, memory: &mut Memory) -> u32 {
+// Why a line is refused: what it says is wrong, it is too long, or there is no receiver for it.
+#[derive(Clone, Copy)]
+pub enum LineRefusal {
+    Wrong(LineFault),
+    TooLong,
+    Misplaced,
+}
+
+impl fmt::Display for LineRefusal {
+    fn fmt<W: fmt::Write>(&self, f: &mut fmt::Formatter<W>) -> fmt::Result {
+        match self {
+            LineRefusal::Wrong(fault) => write!(f, "{fault}"),
+            LineRefusal::TooLong => write!(f, "it has more than {MAX_LINE} characters"),
+            LineRefusal::Misplaced => f.write_str("it belongs to no receiver"),
+        }
+    }
+}
+
+// The run through a capture: what has been told, the counts, the section, and the store and the output of its receiver.
+#[derive(Drop)]
+pub struct Bench {
+    pub told: Told,
+    pub counts: Counts,
+    pub section: Section,
+    pub store: Store,
+    pub output: Store,
+}
+
+impl Bench {
+    fn is_made(&self) -> bool {
+        self.section.receiver[0] != 0
+    }
+
+    // A line that is refused.
+    pub fn refuse(&mut self, rt: &impl Print, why: LineRefusal) -> io::Result<Event>
+        ensures { self.new ≡ record self.old { counts = self.new.counts } }
+    {
+        println!(rt; "line {} refused: {why}", self.counts.capture.lines)?;
+        let counts = &mut self.counts.capture;
+        counts.lines_refused = counts.lines_refused.saturating_add(1);
+        Ok(Event::BadLine)
+    }
+
+    fn count_call(&mut self, taken: Result<(), Refusal>)
+        ensures { self.new ≡ record self.old { counts = self.new.counts } }
+    {
+        let counts = &mut self.counts;
+        if taken.is_ok() {
+            counts.capture.calls_taken = counts.capture.calls_taken.saturating_add(1);
+        } else {
+            counts.capture.calls_refused = counts.capture.calls_refused.saturating_add(1);
+            counts.section_refused = counts.section_refused.saturating_add(1);
+        }
+    }
+
+    // Keeps the marks that are held, unless there are none.
+    fn keep_held(&mut self)
+        ensures { self.new ≡ record self.old { section = self.new.section } }
+    {
+        let mut held = [0u8; MARKS_OCTETS];
+        octets::put(&mut held, 0, from(&self.section.receiver, layout::HELD));
+        if top(&held).is_some() {
+            self.section.last_held = held;
+        }
+    }
+
+    // Ends the line of a call, and keeps what is to be kept.
+    fn called(
+        &mut self,
+        rt: &impl Print,
+        taken: Result<(), Refusal>,
+        answer: &Answer,
+    ) -> io::Result<Event>
+        ensures told { self.new.told ≡ self.old.told }
+        ensures store { self.new.store ≡ self.old.store }
+        ensures output { self.new.output ≡ self.old.output }
+    {
+        println!(rt)?;
+        self.count_call(taken);
+        self.keep_held();
+        Ok(call_event(answer, &self.section.receiver))
+    }
+
+    // ---- the receiver line
+
+    pub fn open(&mut self, rt: &impl Print, h: Header) -> io::Result<Event>
+        ensures told { self.new.told ≡ self.old.told }
+        ensures store { self.new.store ≡ self.old.store }
+        ensures output { self.new.output ≡ self.old.output }
+    {
+        let taken = outcome(make(h, &mut self.section.receiver));
+        self.section.header = Some(h);
+        print!(rt;
+            "line {} at {}: receiver of",
+            self.counts.capture.lines, h.at
+        )?;
+        say_names(rt, h)?;
+        print!(rt;
+            ", version {}, profile {}, maximum {}",
+            h.version, h.profile, h.maximum
+        )?;
+        match taken {
+            Ok(()) => print!(rt; ": made")?,
+            Err(refusal) => print!(rt; ": refused {refusal}")?,
+        }
+        let answer = [0u8; layout::RECEPTION_OCTETS];
+        self.called(rt, taken, &answer)
+    }
+
+    // ---- advance and cancel
+
+    fn advanced(&mut self, rt: &impl Print, reading: u64) -> io::Result<Event>
+        ensures told { self.new.told ≡ self.old.told }
+        ensures output { self.new.output ≡ self.old.output }
+    {
+        let before = self.section.receiver[layout::STATE];
+        let mut answer = [0u8; layout::RECEPTION_OCTETS];
+        let code = catkhize_receiver_advance(
+            &mut self.section.receiver,
+            &mut self.store,
+            reading,
+            &mut answer,
+        );
+        let taken = outcome(code);
+        say_answer(rt, taken, &answer, before, &self.section.receiver)?;
+        self.called(rt, taken, &answer)
+    }
+
+    pub fn advance(&mut self, rt: &impl Print, reading: u64) -> io::Result<Event>
+        ensures told { self.new.told ≡ self.old.told }
+        ensures output { self.new.output ≡ self.old.output }
+    {
+        if !self.is_made() {
+            return self.refuse(rt, LineRefusal::Misplaced);
+        }
+        print!(rt; "line {} at {reading}: advance", self.counts.capture.lines)?;
+        self.advanced(rt, reading)
+    }
+
+    pub fn cancel(&mut self, rt: &impl Print, reading: u64) -> io::Result<Event>
+        ensures told { self.new.told ≡ self.old.told }
+        ensures output { self.new.output ≡ self.old.output }
+    {
+        if !self.is_made() {
+            return self.refuse(rt, LineRefusal::Misplaced);
+        }
+        print!(rt; "line {} at {reading}: cancel", self.counts.capture.lines)?;
+        let before = self.section.receiver[layout::STATE];
+        let answer = [0u8; layout::RECEPTION_OCTETS];
+        let code = catkhize_receiver_cancel(&mut self.section.receiver, &mut self.store, reading);
+        let taken = outcome(code);
+        say_answer(rt, taken, &answer, before, &self.section.receiver)?;
+        self.called(rt, taken, &answer)
+    }
+
+    // The advance at the deadline that a bench makes before a segment that comes past it.
+    pub fn wait(&mut self, rt: &impl Print) -> io::Result<Event>
+        ensures told { self.new.told ≡ self.old.told }
+        ensures output { self.new.output ≡ self.old.output }
+    {
+        let deadline = number_at(&self.section.receiver, layout::DEADLINE + 1);
+        let line = self.counts.capture.lines;
+        print!(rt; "bench: advance at {deadline}, before line {line}")?;
+        self.advanced(rt, deadline)
+    }
+
+    // ---- segments
+
+    // A receive from the receiver's peer and by its protocol.
+    fn receive(&mut self, reading: u64, decoded: &Decoded, data: &[u8], answer: &mut Answer) -> u32
+        ensures { self.new.told ≡ self.old.told }
+    {
+        let receiver = &mut self.section.receiver;
+        let kind = receiver[layout::PEER_KIND];
+        let width = receiver[layout::PEER_WIDTH];
+        let value = number_at(receiver, layout::PEER_VALUE);
+        let protocol = receiver[layout::PROTOCOL];
+        let protocol_octet = receiver[layout::PROTOCOL_OCTET];
+        let unparsed = number_at(decoded, layout::UNPARSED);
+        catkhize_receiver_receive(
+            receiver,
+            &mut self.store,
+            &mut self.output,
+            kind,
+            width,
+            value,
+            protocol,
+            protocol_octet,
+            decoded,
+            data,
+            unparsed,
+            reading,
+            answer,
+        )
+    }
+
+    // The time since the last segment that was taken.
+    fn say_since(&self, rt: &impl Print, reading: u64) -> io::Result<()> {
+        match self.section.last_at {
+            None => Ok(()),
+            Some(last) if reading < last => {
+                print!(rt; ", {} ms before the last", last - reading)
+            }
+            Some(last) => print!(rt; ", {} ms after the last", reading.saturating_sub(last)),
+        }
+    }
+
+    // Keeps the reading of a segment that was taken, and why it failed the reception, if it did.
+    fn keep(&mut self, reading: u64, before: &Receiver, decoded: &Decoded)
+        ensures told { self.new.told ≡ self.old.told }
+        ensures store { self.new.store ≡ self.old.store }
+        ensures output { self.new.output ≡ self.old.output }
+    {
+        self.section.last_at = Some(reading);
+        let receiver = &self.section.receiver;
+        if receiver[layout::STATE] == FAILED {
+            self.section.failure = Some(Failure {
+                reason: reason_of(before, decoded, receiver[layout::STATE + 1]),
+                line: self.counts.capture.lines,
+            });
+        }
+    }
+
+    // A segment that was decoded.
+    fn arrived(
+        &mut self,
+        rt: &impl Print,
+        reading: u64,
+        decoded: &Decoded,
+        segment: &[u8],
+    ) -> io::Result<Event>
+        ensures { self.new.told ≡ self.old.told }
+    {
+        say_segment(rt, decoded)?;
+        let before = self.section.receiver;
+        let n = number_at(decoded, layout::DATA_LENGTH);
+        let data = front(from(segment, HEADER_OCTETS), n as usize);
+        let mut answer = [0u8; layout::RECEPTION_OCTETS];
+        let taken = outcome(self.receive(reading, decoded, data, &mut answer));
+        say_reception(
+            rt,
+            taken,
+            &answer,
+            &before,
+            decoded,
+            &self.section.receiver,
+            segment,
+        )?;
+        if taken.is_ok() {
+            self.keep(reading, &before, decoded);
+        }
+        self.called(rt, taken, &answer)
+    }
+
+    // A segment that was not.
+    fn not_decoded(
+        &mut self,
+        rt: &impl Print,
+        refusal: Refusal,
+        segment: &[u8],
+    ) -> io::Result<Event>
+        ensures { self.new.told ≡ self.old.told }
+    {
+        print!(rt; "segment of {}", Counted(segment.len() as u64, "octet"))?;
+        let receiver = &self.section.receiver;
+        say_refused_segment(rt, refusal, receiver[layout::STATE], receiver, segment)?;
+        let answer = [0u8; layout::RECEPTION_OCTETS];
+        self.called(rt, Err(refusal), &answer)
+    }
+
+    pub fn segment(&mut self, rt: &impl Print, reading: u64, segment: &[u8]) -> io::Result<Event>
+        ensures { self.new.told ≡ self.old.told }
+    {
+        if !self.is_made() {
+            return self.refuse(rt, LineRefusal::Misplaced);
+        }
+        print!(rt; "line {} at {reading}", self.counts.capture.lines)?;
+        self.say_since(rt, reading)?;
+        print!(rt; ": ")?;
+        let mut decoded = [0u8; layout::DECODED_OCTETS];
+        let version = self.section.receiver[layout::VERSION];
+        match outcome(catkhize_decode(segment, version, &mut decoded)) {
+            Ok(()) => self.arrived(rt, reading, &decoded, segment),
+            Err(refusal) => self.not_decoded(rt, refusal, segment),
+        }
+    }
+}
+
+fn make(h: Header, receiver: &mut Receiver) -> u32 {
     let peer = h.peer;
-    let protocol = h.protocol;
     catkhize_receiver_new(
-        memory,
+        receiver,
         peer.kind,
         peer.width,
         peer.value,
-        protocol_number(protocol),
-        protocol_octet(protocol),
+        protocol_number(h.protocol),
+        protocol_octet(h.protocol),
         h.transaction_id,
         h.version,
         h.profile,
@@ -152,122 +392,18 @@ fn make(h: Header, memory: &mut Memory) -> u32 {
     )
 }
 
-// The names of a receiver, at their places, also where it is not made.
-fn name(h: Header, memory: &mut Memory) {
-    let peer = h.peer;
-    memory[layout::PEER_KIND] = peer.kind;
-    memory[layout::PEER_WIDTH] = peer.width;
-    put64(memory, layout::PEER_VALUE, peer.value);
-    memory[layout::RECEIVER_TRANSACTION] = h.transaction_id;
-    memory[NAMED] = 1;
-}
-
-fn say_made(rt: &impl Print, code: u32) -> io::Result<()> {
-    if code != 0 {
-        return say_refused(rt, code);
-    }
-    say::say(rt, say::MADE, 0, 0)
-}
-
-pub fn open(
-    rt: &impl Print,
-    h: Header,
-    counts: &mut Counts,
-    memory: &mut Memory,
-) -> io::Result<Event> {
-    let code = make(h, memory);
-    name(h, memory);
-    say::say(rt, say::CALL, counts[LINES], h.at)?;
-    say::say(rt, say::COLON, 0, 0)?;
-    say::say(rt, say::RECEIVER, 0, 0)?;
-    say_names(rt, memory)?;
-    say::say(rt, say::TERMS, h.version as u64, h.profile as u64)?;
-    say::say(rt, say::TERMS + 1, h.maximum, 0)?;
-    say_made(rt, code)?;
-    let answer = [0u8; layout::RECEPTION_OCTETS];
-    called(rt, code, &answer, counts, memory)
-}
-
-// ---- advance and cancel
-
-fn advanced(
-    rt: &impl Print,
-    reading: u64,
-    counts: &mut Counts,
-    memory: &mut Memory,
-    store: &mut Store,
-) -> io::Result<Event> {
-    let before = memory[layout::STATE];
-    let mut answer = [0u8; layout::RECEPTION_OCTETS];
-    let code = catkhize_receiver_advance(memory, store, reading, &mut answer);
-    say_answer(rt, code, &answer, before, memory)?;
-    called(rt, code, &answer, counts, memory)
-}
-
-pub fn advance(
-    rt: &impl Print,
-    reading: u64,
-    counts: &mut Counts,
-    memory: &mut Memory,
-    store: &mut Store,
-) -> io::Result<Event> {
-    if memory[0] == 0 {
-        return refuse(rt, say::MISPLACED, 0, counts);
-    }
-    say::say(rt, say::CALL, counts[LINES], reading)?;
-    say::say(rt, say::COLON, 0, 0)?;
-    say::say(rt, say::ADVANCE, 0, 0)?;
-    advanced(rt, reading, counts, memory, store)
-}
-
-pub fn cancel(
-    rt: &impl Print,
-    reading: u64,
-    counts: &mut Counts,
-    memory: &mut Memory,
-    store: &mut Store,
-) -> io::Result<Event> {
-    if memory[0] == 0 {
-        return refuse(rt, say::MISPLACED, 0, counts);
-    }
-    say::say(rt, say::CALL, counts[LINES], reading)?;
-    say::say(rt, say::COLON, 0, 0)?;
-    say::say(rt, say::CANCEL, 0, 0)?;
-    let before = memory[layout::STATE];
-    let answer = [0u8; layout::RECEPTION_OCTETS];
-    let code = catkhize_receiver_cancel(memory, store, reading);
-    say_answer(rt, code, &answer, before, memory)?;
-    called(rt, code, &answer, counts, memory)
-}
-
-// The advance at the deadline that a bench makes before a segment that comes past it.
-pub fn wait(
-    rt: &impl Print,
-    counts: &mut Counts,
-    memory: &mut Memory,
-    store: &mut Store,
-) -> io::Result<Event> {
-    let deadline = number_at(memory, layout::DEADLINE + 1);
-    say::say(rt, say::BENCH, deadline, counts[LINES])?;
-    advanced(rt, deadline, counts, memory, store)
-}
-
 // ---- between sections
 
 // Whether the state of a number takes no segments.
 fn is_closed(state: u8) -> bool
     ensures { result ≡ not (taking (state_from state 0)) }
 {
-    match state {
-        FAILED => true,
-        EXPIRED => true,
-        CANCELED => true,
-        _ => false,
-    }
+    matches!(state, FAILED | EXPIRED | CANCELED)
 }
 
 // Closes the receiver of a section that has ended, at its own last reading: the next line's may be lower. One that is Complete is released,
 // one that still waits for segments is canceled.
+#[tactic(auto, using(crate::proofs::ByOctets::none_made, crate::proofs::ByOctets::when_complete, crate::proofs::ByOctets::when_closed, crate::proofs::ByOctets::when_open))]
 pub fn close_receiver(memory: &mut [u8], store: &mut [u8]) -> u32
     ensures { call result memory.new store.new [] [] ≡ close_call memory.old store.old }
 {
@@ -283,150 +419,4 @@ pub fn close_receiver(memory: &mut [u8], store: &mut [u8]) -> u32
         return DONE;
     }
     catkhize_receiver_cancel(memory, store, last)
-}
-
-// ---- segments
-
-// A receive from the receiver's peer and by its protocol.
-fn receive(
-    reading: u64,
-    decoded: &Decoded,
-    data: &[u8],
-    memory: &mut Memory,
-    store: &mut Store,
-    output: &mut Store,
-    answer: &mut Answer,
-) -> u32 {
-    let kind = memory[layout::PEER_KIND];
-    let width = memory[layout::PEER_WIDTH];
-    let value = number_at(memory, layout::PEER_VALUE);
-    let protocol = memory[layout::PROTOCOL];
-    let protocol_octet = memory[layout::PROTOCOL_OCTET];
-    let unparsed = number_at(decoded, layout::UNPARSED);
-    catkhize_receiver_receive(
-        memory,
-        store,
-        output,
-        kind,
-        width,
-        value,
-        protocol,
-        protocol_octet,
-        decoded,
-        data,
-        unparsed,
-        reading,
-        answer,
-    )
-}
-
-// The time since the last segment that was taken.
-fn say_since(rt: &impl Print, reading: u64, memory: &Memory) -> io::Result<()> {
-    if memory[LAST_AT] == 0 {
-        return Ok(());
-    }
-    let last = number_at(memory, LAST_AT + 1);
-    if reading < last {
-        return say::say(rt, say::SINCE + 1, less(last, reading), 0);
-    }
-    say::say(rt, say::SINCE, less(reading, last), 0)
-}
-
-// Keeps the reading of a segment that was taken.
-fn keep_reading(code: u32, reading: u64, memory: &mut Memory) {
-    if code == 0 {
-        memory[LAST_AT] = 1;
-        put64(memory, LAST_AT + 1, reading);
-    }
-}
-
-// Keeps why a segment failed the reception, if it did.
-fn keep_reason(code: u32, line: u64, before: &Before, decoded: &Decoded, memory: &mut Memory) {
-    if code != 0 {
-        return;
-    }
-    if memory[layout::STATE] != layout::FAILED {
-        return;
-    }
-    let r = reason_of(before, decoded, memory[layout::STATE + 1]);
-    put64(memory, REASON, r.form as u64);
-    put64(memory, REASON + 8, r.a);
-    put64(memory, REASON + 16, r.b);
-    put64(memory, REASON + 24, line);
-}
-
-// What a receive gave and answered.
-fn say_received(
-    rt: &impl Print,
-    code: u32,
-    answer: &Answer,
-    before: &Before,
-    decoded: &Decoded,
-    memory: &Memory,
-    segment: &[u8],
-) -> io::Result<()> {
-    say_reception(rt, code, answer, before, decoded, memory, segment)
-}
-
-// A segment that was decoded.
-fn arrived(
-    rt: &impl Print,
-    reading: u64,
-    decoded: &Decoded,
-    segment: &[u8],
-    counts: &mut Counts,
-    memory: &mut Memory,
-    store: &mut Store,
-    output: &mut Store,
-) -> io::Result<Event> {
-    say_segment(rt, decoded)?;
-    let mut before = [0u8; layout::RECEIVER_OCTETS];
-    octets::put(&mut before, 0, memory);
-    let n = number_at(decoded, layout::DATA_LENGTH);
-    let data = front(from(segment, HEADER_OCTETS), n as usize);
-    let mut answer = [0u8; layout::RECEPTION_OCTETS];
-    let code = receive(reading, decoded, data, memory, store, output, &mut answer);
-    say_received(rt, code, &answer, &before, decoded, memory, segment)?;
-    keep_reading(code, reading, memory);
-    keep_reason(code, counts[LINES], &before, decoded, memory);
-    called(rt, code, &answer, counts, memory)
-}
-
-// A segment that was not.
-fn not_decoded(
-    rt: &impl Print,
-    code: u32,
-    segment: &[u8],
-    counts: &mut Counts,
-    memory: &mut Memory,
-) -> io::Result<Event> {
-    say::say(rt, say::SEGMENT, segment.len() as u64, 0)?;
-    say_refused_segment(rt, code, memory[layout::STATE], memory, segment)?;
-    let answer = [0u8; layout::RECEPTION_OCTETS];
-    called(rt, code, &answer, counts, memory)
-}
-
-pub fn segment(
-    rt: &impl Print,
-    reading: u64,
-    segment: &[u8],
-    counts: &mut Counts,
-    memory: &mut Memory,
-    store: &mut Store,
-    output: &mut Store,
-) -> io::Result<Event> {
-    if memory[0] == 0 {
-        return refuse(rt, say::MISPLACED, 0, counts);
-    }
-    say::say(rt, say::CALL, counts[LINES], reading)?;
-    say_since(rt, reading, memory)?;
-    say::say(rt, say::COLON, 0, 0)?;
-    let mut decoded = [0u8; layout::DECODED_OCTETS];
-    let code = catkhize_decode(segment, memory[layout::VERSION], &mut decoded);
-    if code != 0 {
-        return not_decoded(rt, code, segment, counts, memory);
-    }
-    arrived(
-        rt, reading, &decoded, segment, counts, memory, store, output,
-    )
 }

@@ -1,21 +1,17 @@
 -- The lines of words (docs/CAPTURE.md, 'Lines'): what stands at each place, and the first word that is wrong.
-use Rattle.std.specs.Prelude.{ℕ, suc, Bool, true, false, cond, ◌||◌, List, [], ◌∷◌, eqb, ltb, length, get_or}
+use Rattle.std.specs.Prelude.{ℕ, suc, Bool, true, false, cond, ◌||◌, List, [], ◌∷◌, eqb, ltb, length, get_or, Option, Some, None, Result, Ok, Err}
 use Rattle.octets.specs.Octets.{same_octets}
-use Rattle.capture.specs.declared.number.Number.{Number}
-use Rattle.capture.specs.declared.number.Number.TheVariants as number
-use Rattle.capture.specs.declared.octet.Pair.{Pair}
-use Rattle.capture.specs.declared.octet.Pair.TheVariants as pair
+use Rattle.capture.specs.declared.number.NumberFault.{NumberFault}
+use Rattle.capture.specs.declared.number.NumberFault.TheVariants as number
 use Rattle.capture.specs.declared.form.Keyword.{Keyword}
 use Rattle.capture.specs.declared.form.Keyword.TheVariants as keyword
 use Rattle.capture.specs.declared.form.Form.{Form}
 use Rattle.capture.specs.declared.form.Form.TheVariants as form
 use Rattle.capture.specs.declared.form.Sentence.{Sentence}
 use Rattle.capture.specs.declared.form.Sentence.TheVariants as sentence
+use Rattle.capture.specs.declared.form.WordFault.{WordFault}
 use Rattle.capture.specs.declared.form.WordFault.TheVariants as fault
-use Rattle.capture.specs.declared.form.Checked.{Checked}
-use Rattle.capture.specs.declared.form.Checked.TheVariants as checked
-use Rattle.capture.specs.declared.form.Verdict.{Verdict}
-use Rattle.capture.specs.declared.form.Verdict.TheVariants as verdict
+use Rattle.capture.specs.declared.form.BadWord.{BadWord}
 use Rattle.capture.specs.Text.{word, after}
 use Rattle.capture.specs.Decimal.{number_of}
 use Rattle.capture.specs.Hexadecimal.{octet_of}
@@ -62,18 +58,18 @@ forms sentence.Cancel = timed_forms keyword.Cancel
 abbrev pub form_at : List Form → ℕ → Form
 form_at fs i = get_or fs i form.Number
 
-abbrev pub passed_if : Bool → Form → Checked
-passed_if good f = cond good checked.Passed (checked.Fault (fault.Wrong f))
+abbrev pub passed_if : Bool → Form → Result (Unit {0}) WordFault
+passed_if good f = cond good (Ok tt) (Err (fault.Wrong f))
 
 -- a number that goes up to most
-abbrev pub up_to : ℕ → Form → Number → Checked
-up_to most f number.NoNumber = checked.Fault (fault.Wrong f)
-up_to most f number.TooLarge = checked.Fault (fault.TooLarge f)
-up_to most f (number.Value n) = cond (ltb most n) (checked.Fault (fault.TooLarge f)) checked.Passed
+abbrev pub up_to : ℕ → Form → Result ℕ NumberFault → Result (Unit {0}) WordFault
+up_to most f (Err number.NoNumber) = Err (fault.Wrong f)
+up_to most f (Err number.TooLarge) = Err (fault.TooLarge f)
+up_to most f (Ok n) = cond (ltb most n) (Err (fault.TooLarge f)) (Ok tt)
 
-abbrev pub is_octet : Pair → Bool
-is_octet (pair.Octet x) = true
-is_octet pair.NoOctet = false
+abbrev pub is_octet : Option ℕ → Bool
+is_octet (Some x) = true
+is_octet None = false
 
 abbrev pub is : Keyword → List ℕ → Bool
 is k w = same_octets w (spelling k)
@@ -82,7 +78,7 @@ abbrev pub is_protocol : List ℕ → Bool
 is_protocol w = is keyword.Segmented w || (is keyword.Carrier w || is keyword.Other w)
 
 -- a word that is there
-abbrev pub word_check : Form → List ℕ → Checked
+abbrev pub word_check : Form → List ℕ → Result (Unit {0}) WordFault
 word_check (form.Word k) w = passed_if (is k w) (form.Word k)
 word_check form.Small w = up_to 255 form.Small (number_of w)
 word_check form.Number w = up_to 18446744073709551615 form.Number (number_of w)
@@ -90,18 +86,22 @@ word_check form.Protocol w = passed_if (is_protocol w) form.Protocol
 word_check form.Octet w = passed_if (is_octet (octet_of w)) form.Octet
 
 -- a word that may be missing
-abbrev pub check_of : Form → List ℕ → Checked
-check_of f w = cond (eqb (length w) 0) (checked.Fault (fault.Missing f)) (word_check f w)
+abbrev pub check_of : Form → List ℕ → Result (Unit {0}) WordFault
+check_of f w = cond (eqb (length w) 0) (Err (fault.Missing f)) (word_check f w)
+
+-- a word that is wrong, and its place
+abbrev pub bad_word : WordFault → ℕ → BadWord
+bad_word f n = record { fault = f; at = n }
 
 -- no word may follow
-abbrev pub end_check : List ℕ → ℕ → Verdict
-end_check t n = cond (eqb (length (word t)) 0) verdict.Good (verdict.Bad fault.Extra n)
+abbrev pub end_check : List ℕ → ℕ → Result (Unit {0}) BadWord
+end_check t n = cond (eqb (length (word t)) 0) (Ok tt) (Err (bad_word fault.Extra n))
 
-abbrev pub verdict_of : Checked → ℕ → Verdict → Verdict
-verdict_of (checked.Fault f) n rest = verdict.Bad f n
-verdict_of checked.Passed n rest = rest
+abbrev pub verdict_of : Result (Unit {0}) WordFault → ℕ → Result (Unit {0}) BadWord → Result (Unit {0}) BadWord
+verdict_of (Err f) n rest = Err (bad_word f n)
+verdict_of (Ok p) n rest = rest
 
 -- the words of a text against forms, from left to right; the first is word n
-unfoldable pub words_check : List Form → ℕ → List ℕ → Verdict
+unfoldable pub words_check : List Form → ℕ → List ℕ → Result (Unit {0}) BadWord
 words_check [] n t = end_check t n
 words_check (f ∷ fs) n t = verdict_of (check_of f (word t)) n (words_check fs (suc n) (after t))

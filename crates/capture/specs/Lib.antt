@@ -7,5 +7,6 @@ pub mod Hexadecimal
 pub mod HexadecimalLaws
 pub mod LineLaws
 pub mod Lines
+pub mod Messages
 pub mod Text
 pub mod TextLaws

@@ -1,5 +1,6 @@
 -- The characters and the words of a line (docs/CAPTURE.md, 'Lines'). A line is the list of its octets.
 use Rattle.std.specs.Prelude.{ℕ, zero, suc, ◌+◌, Bool, cond, not, ◌&&◌, ◌||◌, List, [], ◌∷◌, eqb, leb, take, drop}
+use Rattle.std.specs.List.{prefix_len}
 use Rattle.octets.specs.Octets.{same_octets}
 use Rattle.capture.specs.declared.text.Class.{Class}
 use Rattle.capture.specs.declared.text.Class.TheVariants as class
@@ -21,9 +22,8 @@ in_class class.Word x = not (blank x)
 in_class class.Digit x = within 48 x 57
 
 -- how many elements at the start of a list pass a test
-unfoldable pub leading : (ℕ → Bool) → List ℕ → ℕ
-leading p [] = zero
-leading p (x ∷ l) = cond (p x) (suc (leading p l)) zero
+abbrev pub leading : (ℕ → Bool) → List ℕ → ℕ
+leading p l = prefix_len p l
 
 -- a line without its comment
 abbrev pub text : List ℕ → List ℕ

@@ -1,28 +1,70 @@
 // The words that a line is written with, and what may stand at each place of a line of words.
-ghost use Rattle.std.specs.Prelude.{◌≡◌, length};
+ghost use Rattle.std.specs.Prelude.{◌≡◌, codes, Some};
 ghost use Rattle.octets.specs.Octets.{same_octets};
 ghost use Rattle.capture.specs.Decimal.{number_of};
 ghost use Rattle.capture.specs.Hexadecimal.{octet_of};
-ghost use Rattle.capture.specs.Forms.{spelling, forms, timed_forms, form_at, passed_if, up_to, is_octet, is_protocol, word_check, check_of, end_check, words_check};
+ghost use Rattle.capture.specs.Forms.{spelling, forms, passed_if, up_to, is_protocol, word_check, check_of, end_check, words_check};
 ghost use Rattle.capture.specs.Text.{word as word_of};
 
-use crate::number::{Number, number_of};
-use crate::octet::{Pair, octet_of};
+use crate::number::{NumberFault, number_of};
+use crate::octet::octet_of;
 use crate::text::{after, word};
+use std::error::Error;
+use std::fmt;
 
 const MAX_SMALL: u64 = 255;
-
-// The words of a receiver line that says no profile, and of an advance or a cancel.
-const RECEIVER_WORDS: usize = 16;
 
 // Where a receiver line says its profile, and the words that this takes.
 pub const PROFILE_PLACE: usize = 12;
 
 pub const PROFILE_WORDS: usize = 2;
 
-const TIMED_WORDS: usize = 2;
+// What stands at each place of a receiver line without a profile, of one with a profile, of an advance and of a cancel.
+const RECEIVER: [Form; 16] = [
+    Form::Word(Keyword::Receiver),
+    Form::Word(Keyword::Peer),
+    Form::Small,
+    Form::Small,
+    Form::Number,
+    Form::Word(Keyword::Protocol),
+    Form::Protocol,
+    Form::Octet,
+    Form::Word(Keyword::Transaction),
+    Form::Small,
+    Form::Word(Keyword::Version),
+    Form::Small,
+    Form::Word(Keyword::Maximum),
+    Form::Number,
+    Form::Word(Keyword::At),
+    Form::Number,
+];
 
-#[derive(Clone, Copy)]
+const RECEIVER_PROFILE: [Form; 18] = [
+    Form::Word(Keyword::Receiver),
+    Form::Word(Keyword::Peer),
+    Form::Small,
+    Form::Small,
+    Form::Number,
+    Form::Word(Keyword::Protocol),
+    Form::Protocol,
+    Form::Octet,
+    Form::Word(Keyword::Transaction),
+    Form::Small,
+    Form::Word(Keyword::Version),
+    Form::Small,
+    Form::Word(Keyword::Profile),
+    Form::Small,
+    Form::Word(Keyword::Maximum),
+    Form::Number,
+    Form::Word(Keyword::At),
+    Form::Number,
+];
+
+const ADVANCE: [Form; 2] = [Form::Word(Keyword::Advance), Form::Number];
+
+const CANCEL: [Form; 2] = [Form::Word(Keyword::Cancel), Form::Number];
+
+#[derive(Clone, Copy, Debug, PartialEq, Eq)]
 pub enum Keyword {
     Receiver,
     Peer,
@@ -40,7 +82,7 @@ pub enum Keyword {
 }
 
 // What may stand at a place: a word, a number up to 255, a number of 64 bits, the name of a protocol, an octet.
-#[derive(Clone, Copy)]
+#[derive(Clone, Copy, Debug, PartialEq, Eq)]
 pub enum Form {
     Word(Keyword),
     Small,
@@ -60,7 +102,7 @@ pub enum Sentence {
 
 // What is wrong with a word: there is none; it has not the form that stands there; it is a number, and too large; it is one too many; no
 // line starts so.
-#[derive(Clone, Copy)]
+#[derive(Clone, Copy, Debug, PartialEq, Eq)]
 pub enum WordFault {
     Missing(Form),
     Wrong(Form),
@@ -69,214 +111,172 @@ pub enum WordFault {
     Start,
 }
 
-// What a word is against a form.
-#[derive(Clone, Copy)]
-pub enum Checked {
-    Passed,
-    Fault(WordFault),
+// The first word of a line that is wrong, counted from 0.
+#[derive(Clone, Copy, Debug, PartialEq, Eq)]
+pub struct BadWord {
+    pub fault: WordFault,
+    pub at: usize,
 }
 
-// What the words of a line are: right, or the first that is wrong, counted from 0.
-#[derive(Clone, Copy)]
-pub enum Verdict {
-    Good,
-    Bad(WordFault, usize),
+impl Keyword {
+    const fn as_str(self) -> &'static str
+        ensures { result.now ≡ spelling self }
+    {
+        match self {
+            Keyword::Receiver => "receiver",
+            Keyword::Peer => "peer",
+            Keyword::Protocol => "protocol",
+            Keyword::Segmented => "segmented",
+            Keyword::Carrier => "carrier",
+            Keyword::Other => "other",
+            Keyword::Transaction => "transaction",
+            Keyword::Version => "version",
+            Keyword::Profile => "profile",
+            Keyword::Maximum => "maximum",
+            Keyword::At => "at",
+            Keyword::Advance => "advance",
+            Keyword::Cancel => "cancel",
+        }
+    }
+}
+
+impl fmt::Display for Form {
+    ghost use Rattle.capture.specs.Messages.{form_text};
+
+    ghost output = { λ form. Some (form_text form) };
+
+    fn fmt<W: fmt::Write>(&self, f: &mut fmt::Formatter<W>) -> fmt::Result {
+        match self {
+            Form::Word(k) => write!(f, "the word {}", k.as_str()),
+            Form::Small => write!(f, "a number from 0 to {}", u8::MAX),
+            Form::Number => write!(f, "a number from 0 to {}", u64::MAX),
+            Form::Protocol => f.write_str("segmented, carrier or other"),
+            Form::Octet => f.write_str("an octet of two hexadecimal digits"),
+        }
+    }
+}
+
+// A word is counted from 1 here.
+impl fmt::Display for BadWord {
+    ghost use Rattle.capture.specs.Messages.{word_text};
+
+    ghost output = { λ fault. Some (word_text fault) };
+
+    fn fmt<W: fmt::Write>(&self, f: &mut fmt::Formatter<W>) -> fmt::Result {
+        let n = self.at.saturating_add(1);
+        match self.fault {
+            WordFault::Missing(form) => write!(f, "word {n} is missing: it should be {form}"),
+            WordFault::Wrong(form) => write!(f, "word {n} should be {form}"),
+            WordFault::TooLarge(form) => write!(f, "word {n} is too large: it should be {form}"),
+            WordFault::Extra => write!(f, "word {n} is one too many"),
+            WordFault::Start => write!(
+                f,
+                "word {n} is no clock reading and not receiver, advance or cancel"
+            ),
+        }
+    }
+}
+
+impl Error for BadWord {}
+
+impl Sentence {
+    // What stands at each place.
+    fn forms(self) -> &'static [Form]
+        ensures { result.now ≡ forms self }
+    {
+        match self {
+            Sentence::Receiver => &RECEIVER,
+            Sentence::ReceiverProfile => &RECEIVER_PROFILE,
+            Sentence::Advance => &ADVANCE,
+            Sentence::Cancel => &CANCEL,
+        }
+    }
 }
 
 pub fn is_keyword(k: Keyword, w: &[u8]) -> bool
     ensures { result ≡ same_octets w.now (spelling k) }
 {
-    match k {
-        Keyword::Receiver => octets::same(w, b"receiver"),
-        Keyword::Peer => octets::same(w, b"peer"),
-        Keyword::Protocol => octets::same(w, b"protocol"),
-        Keyword::Segmented => octets::same(w, b"segmented"),
-        Keyword::Carrier => octets::same(w, b"carrier"),
-        Keyword::Other => octets::same(w, b"other"),
-        Keyword::Transaction => octets::same(w, b"transaction"),
-        Keyword::Version => octets::same(w, b"version"),
-        Keyword::Profile => octets::same(w, b"profile"),
-        Keyword::Maximum => octets::same(w, b"maximum"),
-        Keyword::At => octets::same(w, b"at"),
-        Keyword::Advance => octets::same(w, b"advance"),
-        Keyword::Cancel => octets::same(w, b"cancel"),
-    }
+    octets::same(w, k.as_str().as_bytes())
 }
 
-// What stands at place i of a receiver line that says no profile.
-fn receiver_form(i: usize) -> Form
-    ensures { result ≡ form_at (forms Sentence.Receiver) i }
-{
-    let forms = [
-        Form::Word(Keyword::Receiver),
-        Form::Word(Keyword::Peer),
-        Form::Small,
-        Form::Small,
-        Form::Number,
-        Form::Word(Keyword::Protocol),
-        Form::Protocol,
-        Form::Octet,
-        Form::Word(Keyword::Transaction),
-        Form::Small,
-        Form::Word(Keyword::Version),
-        Form::Small,
-        Form::Word(Keyword::Maximum),
-        Form::Number,
-        Form::Word(Keyword::At),
-        Form::Number,
-    ];
-    if i < RECEIVER_WORDS {
-        return forms[i];
-    }
-    Form::Number
-}
-
-// What stands at place i of a receiver line that says one: two words more behind the version.
-fn profile_form(i: usize) -> Form
-    ensures { result ≡ form_at (forms Sentence.ReceiverProfile) i }
-{
-    if i < PROFILE_PLACE {
-        return receiver_form(i);
-    }
-    if i == PROFILE_PLACE {
-        return Form::Word(Keyword::Profile);
-    }
-    if i == PROFILE_PLACE + 1 {
-        return Form::Small;
-    }
-    receiver_form(i - PROFILE_WORDS)
-}
-
-// What stands at place i of a line that starts with a word and has a number after it.
-fn timed_form(k: Keyword, i: usize) -> Form
-    ensures { result ≡ form_at (timed_forms k) i }
-{
-    match i {
-        0 => Form::Word(k),
-        _ => Form::Number,
-    }
-}
-
-fn form_at(sentence: Sentence, i: usize) -> Form
-    ensures { result ≡ form_at (forms sentence) i }
-{
-    match sentence {
-        Sentence::Receiver => receiver_form(i),
-        Sentence::ReceiverProfile => profile_form(i),
-        Sentence::Advance => timed_form(Keyword::Advance, i),
-        Sentence::Cancel => timed_form(Keyword::Cancel, i),
-    }
-}
-
-// How many words a line has.
-fn places(sentence: Sentence) -> usize
-    ensures { result ≡ length (forms sentence) }
-{
-    match sentence {
-        Sentence::Receiver => RECEIVER_WORDS,
-        Sentence::ReceiverProfile => RECEIVER_WORDS + PROFILE_WORDS,
-        Sentence::Advance => TIMED_WORDS,
-        Sentence::Cancel => TIMED_WORDS,
-    }
-}
-
-fn passed_if(good: bool, form: Form) -> Checked
+fn passed_if(good: bool, form: Form) -> Result<(), WordFault>
     ensures { result ≡ passed_if good form }
 {
     if good {
-        Checked::Passed
+        Ok(())
     } else {
-        Checked::Fault(WordFault::Wrong(form))
-    }
-}
-
-fn is_octet(w: &[u8]) -> bool
-    ensures { result ≡ is_octet (octet_of w.now) }
-{
-    match octet_of(w) {
-        Pair::Octet(_) => true,
-        Pair::NoOctet => false,
+        Err(WordFault::Wrong(form))
     }
 }
 
 fn is_protocol(w: &[u8]) -> bool
     ensures { result ≡ is_protocol w.now }
 {
-    if is_keyword(Keyword::Segmented, w) {
-        return true;
-    }
-    if is_keyword(Keyword::Carrier, w) {
-        return true;
-    }
-    is_keyword(Keyword::Other, w)
+    is_keyword(Keyword::Segmented, w)
+        || is_keyword(Keyword::Carrier, w)
+        || is_keyword(Keyword::Other, w)
 }
 
 // A number that goes up to most.
-fn up_to(most: u64, form: Form, w: &[u8]) -> Checked
+fn up_to(most: u64, form: Form, w: &[u8]) -> Result<(), WordFault>
     ensures { result ≡ up_to most form (number_of w.now) }
 {
     match number_of(w) {
-        Number::NoNumber => Checked::Fault(WordFault::Wrong(form)),
-        Number::TooLarge => Checked::Fault(WordFault::TooLarge(form)),
-        Number::Value(n) => {
-            if most < n {
-                return Checked::Fault(WordFault::TooLarge(form));
-            }
-            Checked::Passed
-        }
+        Err(NumberFault::NoNumber) => Err(WordFault::Wrong(form)),
+        Err(NumberFault::TooLarge) => Err(WordFault::TooLarge(form)),
+        Ok(n) if most < n => Err(WordFault::TooLarge(form)),
+        Ok(_) => Ok(()),
     }
 }
 
 // A word that is there, against a form.
-fn check_word(form: Form, w: &[u8]) -> Checked
+fn check_word(form: Form, w: &[u8]) -> Result<(), WordFault>
     ensures { result ≡ word_check form w.now }
 {
     match form {
-        Form::Word(k) => passed_if(is_keyword(k, w), Form::Word(k)),
-        Form::Small => up_to(MAX_SMALL, Form::Small, w),
-        Form::Number => up_to(u64::MAX, Form::Number, w),
-        Form::Protocol => passed_if(is_protocol(w), Form::Protocol),
-        Form::Octet => passed_if(is_octet(w), Form::Octet),
+        Form::Word(k) => passed_if(is_keyword(k, w), form),
+        Form::Small => up_to(MAX_SMALL, form, w),
+        Form::Number => up_to(u64::MAX, form, w),
+        Form::Protocol => passed_if(is_protocol(w), form),
+        Form::Octet => passed_if(octet_of(w).is_some(), form),
     }
 }
 
 // The first word of t against a form.
-fn check_first(form: Form, t: &[u8]) -> Checked
+fn check_first(form: Form, t: &[u8]) -> Result<(), WordFault>
     ensures { result ≡ check_of form (word_of t.now) }
 {
     let w = word(t);
-    if w.len() == 0 {
-        return Checked::Fault(WordFault::Missing(form));
+    if w.is_empty() {
+        return Err(WordFault::Missing(form));
     }
     check_word(form, w)
 }
 
-// No word may stand in t, which would be word n.
-fn check_end(t: &[u8], n: usize) -> Verdict
-    ensures { result ≡ end_check t.now n }
+// No word may stand in t, which would be word at.
+fn check_end(t: &[u8], at: usize) -> Result<(), BadWord>
+    ensures { result ≡ end_check t.now at }
 {
-    if word(t).len() == 0 {
-        return Verdict::Good;
+    if word(t).is_empty() {
+        Ok(())
+    } else {
+        Err(BadWord {
+            fault: WordFault::Extra,
+            at,
+        })
     }
-    Verdict::Bad(WordFault::Extra, n)
 }
 
-// The first word of a line that is wrong.
-pub fn check_words(sentence: Sentence, s: &[u8]) -> Verdict
+// The words of a line, up to the first that is wrong.
+#[tactic(auto, using(crate::specs::FormLaws::words_at, crate::specs::FormLaws::words_end))]
+pub fn check_words(sentence: Sentence, s: &[u8]) -> Result<(), BadWord>
     ensures { result ≡ words_check (forms sentence) 0 s.now }
 {
-    let n = places(sentence);
+    let forms = sentence.forms();
     let mut t = s;
-    let mut i: usize = 0;
-    while i < n {
-        match check_first(form_at(sentence, i), t) {
-            Checked::Fault(f) => return Verdict::Bad(f, i),
-            Checked::Passed => {
-                let next = after(t);
-                t = next;
-                i += 1;
-            }
-        }
+    for (at, form) in forms.iter().enumerate() {
+        check_first(*form, t).map_err(|fault| BadWord { fault, at })?;
+        t = after(t);
     }
-    check_end(t, i)
+    check_end(t, forms.len())
 }

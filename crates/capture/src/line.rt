@@ -1,15 +1,17 @@
 // What a line of a capture says.
-ghost use Rattle.std.specs.Prelude.{◌≡◌, ◌≤◌};
-ghost use Rattle.capture.specs.Lines.{protocol_of, peer_of, header_of, header_line, receiver_line, advance_line, cancel_line, octets_after, segment_line, text_line, line_of, opening, read};
+ghost use Rattle.std.specs.Prelude.{◌≡◌, ◌≤◌, Some};
+ghost use Rattle.capture.specs.Lines.{protocol_of, peer_of, header_of, header_line, receiver_line, start_fault, segment_line, text_line, line_of, opening, read};
 
 use crate::form::{
-    Form, Keyword, PROFILE_PLACE, PROFILE_WORDS, Sentence, Verdict, WordFault, check_words,
+    BadWord, Form, Keyword, PROFILE_PLACE, PROFILE_WORDS, Sentence, WordFault, check_words,
     is_keyword,
 };
-use crate::number::{Number, number_of, small_or_zero, value_or_zero};
-use crate::octet::{OctetFault, Octets, octet_or_zero, spelled};
+use crate::number::{NumberFault, number_of, small_or_zero, value_or_zero};
+use crate::octet::{BadOctets, octet_or_zero, spelled};
 use crate::text::{Class, front, run, word, word_at, word_end};
 use link::{HigherLayerProtocol, MobileIdentity};
+use std::error::Error;
+use std::fmt;
 
 // The profile of a receiver line that says none.
 const UNSAID_PROFILE: u8 = 1;
@@ -26,8 +28,7 @@ pub struct Header {
     pub at: u64,
 }
 
-// A line: nothing; a receiver; an advance or a cancel at a reading; a segment at a reading, with the number of its octets; a word that is
-// wrong, counted from 0; or octets that are wrong, with the character of the line, counted from 0.
+// A line: nothing; a receiver; an advance or a cancel at a reading; a segment at a reading, with the number of its octets.
 #[derive(Clone, Copy)]
 pub enum Line {
     Nothing,
@@ -35,20 +36,60 @@ pub enum Line {
     Advance(u64),
     Cancel(u64),
     Segment(u64, usize),
-    BadWord(WordFault, usize),
-    BadOctets(OctetFault, usize),
 }
+
+// What is wrong with a line: a word, or the octets of a segment, at a character of the line.
+#[derive(Clone, Copy, Debug, PartialEq, Eq)]
+pub enum LineFault {
+    Word(BadWord),
+    Octets(BadOctets),
+}
+
+impl From<BadWord> for LineFault {
+    ghost use Rattle.capture.specs.declared.line.LineFault.TheVariants.{Word};
+
+    ghost from_gives = { λ f r. r ≡ Word f };
+
+    fn from(f: BadWord) -> LineFault {
+        LineFault::Word(f)
+    }
+}
+
+impl From<BadOctets> for LineFault {
+    ghost use Rattle.capture.specs.declared.line.LineFault.TheVariants.{Octets};
+
+    ghost from_gives = { λ f r. r ≡ Octets f };
+
+    fn from(f: BadOctets) -> LineFault {
+        LineFault::Octets(f)
+    }
+}
+
+impl fmt::Display for LineFault {
+    ghost use Rattle.capture.specs.Messages.{fault_text};
+
+    ghost output = { λ fault. Some (fault_text fault) };
+
+    fn fmt<W: fmt::Write>(&self, f: &mut fmt::Formatter<W>) -> fmt::Result {
+        match self {
+            LineFault::Word(fault) => write!(f, "{fault}"),
+            LineFault::Octets(fault) => write!(f, "{fault}"),
+        }
+    }
+}
+
+impl Error for LineFault {}
 
 fn protocol_of(name: &[u8], octet: u8) -> HigherLayerProtocol
     ensures { result ≡ protocol_of name.now octet }
 {
     if is_keyword(Keyword::Segmented, name) {
-        return HigherLayerProtocol::Segmented(octet);
+        HigherLayerProtocol::Segmented(octet)
+    } else if is_keyword(Keyword::Carrier, name) {
+        HigherLayerProtocol::CarrierSpecific(octet)
+    } else {
+        HigherLayerProtocol::Other(octet)
     }
-    if is_keyword(Keyword::Carrier, name) {
-        return HigherLayerProtocol::CarrierSpecific(octet);
-    }
-    HigherLayerProtocol::Other(octet)
 }
 
 fn peer_of(t: &[u8]) -> MobileIdentity
@@ -79,18 +120,18 @@ fn header_of(profile: u8, place: usize, t: &[u8]) -> Header
     }
 }
 
-fn header_line(sentence: Sentence, profile: u8, place: usize, t: &[u8]) -> Line
+#[tactic(auto, unfolding(crate::specs::Lines::header_line))]
+fn header_line(sentence: Sentence, profile: u8, place: usize, t: &[u8]) -> Result<Line, LineFault>
     requires { place ≤ 14 }
     ensures { result ≡ header_line sentence profile place t.now }
 {
-    match check_words(sentence, t) {
-        Verdict::Bad(f, i) => Line::BadWord(f, i),
-        Verdict::Good => Line::Receiver(header_of(profile, place, t)),
-    }
+    check_words(sentence, t)?;
+    Ok(Line::Receiver(header_of(profile, place, t)))
 }
 
 // The word behind the version tells whether the line says a profile.
-fn receiver_line(t: &[u8]) -> Line
+#[tactic(auto, unfolding(crate::specs::Lines::receiver_line))]
+fn receiver_line(t: &[u8]) -> Result<Line, LineFault>
     ensures { result ≡ receiver_line t.now }
 {
     if is_keyword(Keyword::Profile, word_at(t, PROFILE_PLACE)) {
@@ -105,66 +146,52 @@ fn receiver_line(t: &[u8]) -> Line
     header_line(Sentence::Receiver, UNSAID_PROFILE, PROFILE_PLACE, t)
 }
 
-fn advance_line(t: &[u8]) -> Line
-    ensures { result ≡ advance_line t.now }
+// Why a line starts with no reading.
+fn start_fault(f: NumberFault) -> WordFault
+    ensures { result ≡ start_fault f }
 {
-    match check_words(Sentence::Advance, t) {
-        Verdict::Bad(f, i) => Line::BadWord(f, i),
-        Verdict::Good => Line::Advance(value_or_zero(word_at(t, 1))),
+    match f {
+        NumberFault::NoNumber => WordFault::Start,
+        NumberFault::TooLarge => WordFault::TooLarge(Form::Number),
     }
 }
 
-fn cancel_line(t: &[u8]) -> Line
-    ensures { result ≡ cancel_line t.now }
-{
-    match check_words(Sentence::Cancel, t) {
-        Verdict::Bad(f, i) => Line::BadWord(f, i),
-        Verdict::Good => Line::Cancel(value_or_zero(word_at(t, 1))),
-    }
-}
-
-// A segment, whose octets follow its reading.
-fn octets_after(reading: u64, t: &[u8], out: &mut [u8]) -> Line
-    ensures { read result out.new ≡ octets_after reading t.now out.old }
-{
-    match spelled(t, word_end(t), out) {
-        Octets::Read(n) => Line::Segment(reading, n),
-        Octets::Fault(f, at) => Line::BadOctets(f, at),
-    }
-}
-
-fn segment_line(t: &[u8], out: &mut [u8]) -> Line
+// A segment: a reading, and octets.
+#[tactic(auto, unfolding(crate::specs::Lines::segment_line, crate::specs::Lines::octets_after, crate::specs::Text::after))]
+fn segment_line(t: &[u8], out: &mut [u8]) -> Result<Line, LineFault>
     ensures { read result out.new ≡ segment_line t.now out.old }
 {
-    match number_of(word(t)) {
-        Number::NoNumber => Line::BadWord(WordFault::Start, 0),
-        Number::TooLarge => Line::BadWord(WordFault::TooLarge(Form::Number), 0),
-        Number::Value(reading) => octets_after(reading, t, out),
-    }
+    let reading = number_of(word(t)).map_err(|f| BadWord {
+        fault: start_fault(f),
+        at: 0,
+    })?;
+    let n = spelled(t, word_end(t), out)?;
+    Ok(Line::Segment(reading, n))
 }
 
 // What a line's text, without its comment, says.
-fn text_line(t: &[u8], out: &mut [u8]) -> Line
+#[tactic(auto, unfolding(crate::specs::Lines::text_line, crate::specs::Lines::advance_line, crate::specs::Lines::cancel_line))]
+fn text_line(t: &[u8], out: &mut [u8]) -> Result<Line, LineFault>
     ensures { read result out.new ≡ text_line t.now out.old }
 {
     let first = word(t);
-    if first.len() == 0 {
-        return Line::Nothing;
+    if first.is_empty() {
+        Ok(Line::Nothing)
+    } else if is_keyword(Keyword::Receiver, first) {
+        receiver_line(t)
+    } else if is_keyword(Keyword::Advance, first) {
+        check_words(Sentence::Advance, t)?;
+        Ok(Line::Advance(value_or_zero(word_at(t, 1))))
+    } else if is_keyword(Keyword::Cancel, first) {
+        check_words(Sentence::Cancel, t)?;
+        Ok(Line::Cancel(value_or_zero(word_at(t, 1))))
+    } else {
+        segment_line(t, out)
     }
-    if is_keyword(Keyword::Receiver, first) {
-        return receiver_line(t);
-    }
-    if is_keyword(Keyword::Advance, first) {
-        return advance_line(t);
-    }
-    if is_keyword(Keyword::Cancel, first) {
-        return cancel_line(t);
-    }
-    segment_line(t, out)
 }
 
 // What a line, without its line feed, says. The octets of a segment go to the start of out.
-pub fn read_line(s: &[u8], out: &mut [u8]) -> Line
+pub fn read_line(s: &[u8], out: &mut [u8]) -> Result<Line, LineFault>
     ensures { read result out.new ≡ line_of s.now out.old }
 {
     text_line(front(s, run(Class::Text, s)), out)

@@ -2,47 +2,38 @@
 ghost use Rattle.std.specs.Prelude.{◌≡◌};
 ghost use Rattle.capture.specs.Decimal.{value_of, fitting, number_of, or_zero, small_or_zero};
 
-use crate::text::{Class, less, run};
-
-const ZERO: u8 = 48;
+use crate::text::{Class, run};
 
 const BASE: u64 = 10;
 
-const MAX_SMALL: u64 = 255;
-
-// What a word is as a number of 64 bits.
-#[derive(Clone, Copy)]
-pub enum Number {
-    Value(u64),
-    TooLarge,
+// Why a word is no number of 64 bits.
+#[derive(Clone, Copy, Debug, PartialEq, Eq)]
+pub enum NumberFault {
     NoNumber,
+    TooLarge,
 }
 
 // The value of digits, where it is a number of 64 bits.
-fn value(s: &[u8]) -> Number
+#[tactic(auto, using(crate::specs::DecimalLaws::value_at, crate::specs::DecimalLaws::value_end, crate::specs::DecimalLaws::value_grows))]
+fn value(s: &[u8]) -> Result<u64, NumberFault>
     ensures { result ≡ fitting (value_of s.now) }
 {
     let mut sum: u64 = 0;
-    let mut i: usize = 0;
-    while i < s.len() {
-        let d = less(s[i], ZERO) as u64;
+    for x in s {
+        let d = u64::from(x.saturating_sub(b'0'));
         if (u64::MAX - d) / BASE < sum {
-            return Number::TooLarge;
+            return Err(NumberFault::TooLarge);
         }
         sum = BASE * sum + d;
-        i += 1;
     }
-    Number::Value(sum)
+    Ok(sum)
 }
 
-pub fn number_of(s: &[u8]) -> Number
+pub fn number_of(s: &[u8]) -> Result<u64, NumberFault>
     ensures { result ≡ number_of s.now }
 {
-    if s.len() == 0 {
-        return Number::NoNumber;
-    }
-    if run(Class::Digit, s) != s.len() {
-        return Number::NoNumber;
+    if s.is_empty() || run(Class::Digit, s) != s.len() {
+        return Err(NumberFault::NoNumber);
     }
     value(s)
 }
@@ -51,20 +42,12 @@ pub fn number_of(s: &[u8]) -> Number
 pub fn value_or_zero(s: &[u8]) -> u64
     ensures { result ≡ or_zero (number_of s.now) }
 {
-    match number_of(s) {
-        Number::Value(n) => n,
-        Number::TooLarge => 0,
-        Number::NoNumber => 0,
-    }
+    number_of(s).unwrap_or(0)
 }
 
 // The value of a number up to 255, and 0 of what is none.
 pub fn small_or_zero(s: &[u8]) -> u8
     ensures { result ≡ small_or_zero (or_zero (number_of s.now)) }
 {
-    let n = value_or_zero(s);
-    if MAX_SMALL < n {
-        return 0;
-    }
-    n as u8
+    u8::try_from(value_or_zero(s)).unwrap_or(0)
 }

@@ -1,7 +1,6 @@
 -- The theorem of document 01's proved cases (specs/Cases): of each case, what the definitions give is what must come out. Assumes nothing.
-use Rattle.std.specs.Prelude.{◌≡◌, refl, List, [], ◌∷◌, ℕ, ◌<◌, length}
+use Rattle.std.specs.Prelude.{◌≡◌, refl, List, [], ◌∷◌, ℕ, ◌<◌, length, Option, Some, None}
 use Rattle.std.proofs.Common.{ap}
-use Rattle.std.proofs.Math.Option.{Option, none, some}
 use Rattle.octets.specs.Octets.{wiped_to, same_octets}
 use Rattle.words.specs.Marks.{marked, sum_below, words_of, all_below, highest_of}
 use Rattle.link.specs.Profile.{known_profile, receiver_interval}
@@ -31,4 +30,4 @@ planned_as m budget k n r e p q = rw (e, p, q)
 pub all_cases : (d o₁ o₂ o₃ o₄ o₅ o₆ : ℕ) (m n : List ℕ) → d < 256 → length m ≡ 256 → length n ≡ 257 → All (cases d o₁ o₂ o₃ o₄ o₅ o₆ m n)
 unfolding known_profile receiver_interval cases given segment_of segment_as services_of step_of run_params compression_of window_of status_of encode_of bits_of bits octets_of fields_with plan_message plan_of segment_count longer receive_all try_new_of receive_of impossible all_below sum_to empty_slots empty_lengths joined same_octets wiped_to marked words_of sum_below highest_of
 all_cases d o₁ o₂ o₃ o₄ o₅ o₆ m n h e f =
-    (refl, (refl, (refl, (refl, (refl, (refl, (refl, (refl, (refl, (refl, (refl, (refl, (refl, (refl, (refl, (refl, (refl, (p10 d o₁ o₂ o₃ o₄ o₅ o₆ h, (planned_as m 4 256 (some 256) none e refl refl, (planned_as n 4 257 none (some (22, 0)) f refl refl, (refl, (refl, tt))))))))))))))))))))))
+    (refl, (refl, (refl, (refl, (refl, (refl, (refl, (refl, (refl, (refl, (refl, (refl, (refl, (refl, (refl, (refl, (refl, (p10 d o₁ o₂ o₃ o₄ o₅ o₆ h, (planned_as m 4 256 (Some 256) None e refl refl, (planned_as n 4 257 None (Some (22, 0)) f refl refl, (refl, (refl, tt))))))))))))))))))))))

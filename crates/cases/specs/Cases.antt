@@ -2,15 +2,12 @@
 -- A case holds what goes in and what must come out; `given` puts in its place what the definitions give; the theorem (proofs/AllCases) says of each case that nothing
 -- changes: of P10 for every first octet d and any octets behind it, of P11 and P12 for any octets. Each mark has all that its line says up to the next
 -- mark. Assumes nothing.
-use Rattle.std.specs.Prelude.{◌≡◌, List, [], ◌∷◌, ℕ, zero, suc, length, replicate}
-use Rattle.std.proofs.Math.Option.{Option, none, some}
+use Rattle.std.specs.Prelude.{◌≡◌, List, [], ◌∷◌, ℕ, zero, suc, length, replicate, Option, Some, None}
 use Rattle.link.specs.declared.HigherLayerProtocol.TheVariants.{Segmented}
 use Rattle.tsar.specs.declared.Compression.TheVariants as compression
 use Rattle.tsar.specs.declared.AcknowledgmentWindow.TheVariants as window
 use Rattle.tsar.specs.declared.CrcStatus.TheVariants as status
 use Rattle.tsar.specs.declared.OptionalServices.{OptionalServices}
-use Rattle.tsar.specs.declared.MessageLength.TheVariants as len
-use Rattle.tsar.specs.declared.Services.TheVariants as optional
 use Rattle.tsar.specs.declared.MessageCrc.TheVariants as crc
 use Rattle.tsar.specs.declared.SegmentKind.{SegmentKind}
 use Rattle.tsar.specs.declared.SegmentKind.TheVariants as kind'
@@ -72,14 +69,14 @@ begin_octets (plan_refused n) m = []
 begin_octets (segmented p) m = written (train_of p m 0)
 
 abbrev pub count_in : Planning → Option ℕ
-count_in unsegmented = none
-count_in (plan_refused n) = none
-count_in (segmented p) = some p.count
+count_in unsegmented = None
+count_in (plan_refused n) = None
+count_in (segmented p) = Some p.count
 
 abbrev pub refusal_in : Planning → Option Refusal
-refusal_in unsegmented = none
-refusal_in (plan_refused n) = some n
-refusal_in (segmented p) = none
+refusal_in unsegmented = None
+refusal_in (plan_refused n) = Some n
+refusal_in (segmented p) = None
 
 -- a receiver of a peer, for messages of at most 10 octets
 abbrev terms : Terms
@@ -116,35 +113,35 @@ every4 = record { compression = compression.None; acknowledgment_window = window
 
 -- P1: a Begin without parameters
 abbrev bare_begin : Segment
-bare_begin = segment 0 0 (kind'.Begin len.Unstated optional.Absent)
+bare_begin = segment 0 0 (kind'.Begin None None)
 
 -- P2: a Continue of transaction 3
 abbrev continue_data : Segment
-continue_data = segment 3 1 (kind'.Continue len.Unstated)
+continue_data = segment 3 1 (kind'.Continue None)
 
 -- P3: an End with a CRC-16
 abbrev end_crc : Segment
-end_crc = segment 0 1 (kind'.End len.Unstated (crc.Crc16 0x1234))
+end_crc = segment 0 1 (kind'.End None (Some (crc.Crc16 0x1234)))
 
 -- P5: a Begin with services
 abbrev begin_services : Segment
-begin_services = segment 0 0 (kind'.Begin len.Unstated (optional.SpelledOut every4))
+begin_services = segment 0 0 (kind'.Begin None (Some every4))
 
 -- P6: a Continue without parameters
 abbrev bare_continue : Segment
-bare_continue = segment 0 1 (kind'.Continue len.Unstated)
+bare_continue = segment 0 1 (kind'.Continue None)
 
 -- P9: a Begin with a length and services
 abbrev begin_both : Segment
-begin_both = segment 0 0 (kind'.Begin (len.Stated 5) (optional.SpelledOut every4))
+begin_both = segment 0 0 (kind'.Begin (Some 5) (Some every4))
 
 -- P13: an End at sequence 1
 abbrev bare_end : Segment
-bare_end = segment 0 1 (kind'.End len.Unstated crc.Absent)
+bare_end = segment 0 1 (kind'.End None None)
 
 -- P14: a Continue at sequence 255
 abbrev continue_255 : Segment
-continue_255 = segment 0 255 (kind'.Continue len.Unstated)
+continue_255 = segment 0 255 (kind'.Continue None)
 
 -- ---- the list
 
@@ -181,13 +178,13 @@ cases d o₁ o₂ o₃ o₄ o₅ o₆ m n =
     -- P10
     ∷ cuts (d ∷ o₁ ∷ o₂ ∷ o₃ ∷ o₄ ∷ o₅ ∷ o₆ ∷ []) 6 (1 ∷ 3 ∷ 3 ∷ []) (1 ∷ 3 ∷ 3 ∷ []) (0x00 ∷ 0x00 ∷ 0x01 ∷ d ∷ 0x10 ∷ 0x07 ∷ [])
     -- P11
-    ∷ makes m 4 (some 256) none
+    ∷ makes m 4 (Some 256) None
     -- P12
-    ∷ makes n 4 none (some (22, 0))
+    ∷ makes n 4 None (Some (22, 0))
     -- P13
-    ∷ receives ((bare_begin, []) ∷ (bare_end, []) ∷ []) ((answered none none, Receiving) ∷ (answered none (some 0), Complete) ∷ [])
+    ∷ receives ((bare_begin, []) ∷ (bare_end, []) ∷ []) ((answered None None, Receiving) ∷ (answered None (Some 0), Complete) ∷ [])
     -- P14
-    ∷ receives ((bare_begin, []) ∷ (continue_255, []) ∷ []) ((answered none none, Receiving) ∷ (answered none none, Failed Aborted) ∷ [])
+    ∷ receives ((bare_begin, []) ∷ (continue_255, []) ∷ []) ((answered None None, Receiving) ∷ (answered None None, Failed Aborted) ∷ [])
     ∷ []
 
 -- ---- the statement

@@ -1,7 +1,6 @@
 -- Document 02, 2026-10, of a receiver that is given by its try_new and by its step function: a train delivered once, Begin first and the others in any
 -- order, is handed over by the last receive and by no other, nor by segments that come again behind it.
-use Rattle.std.specs.Prelude.{ℕ, suc, ◌+◌, ◌-◌, ◌^◌, ◌≤◌, ◌<◌, min, ◌≡◌, List, [], ◌∷◌, ◌++◌, length}
-use Rattle.std.proofs.Math.Option.{none}
+use Rattle.std.specs.Prelude.{ℕ, suc, ◌+◌, ◌-◌, ◌^◌, ◌≤◌, ◌<◌, min, ◌≡◌, List, [], ◌∷◌, ◌++◌, length, None}
 use Rattle.tsar.specs.Layout.{WholeSegment}
 use Rattle.orders.specs.Statement.{occurs, IsOrder}
 use Rattle.receiver.specs.Answers.{Step}
@@ -52,13 +51,13 @@ module _ (new : TryNewFunction) (step : StepFunction) (t : Terms) (made : ℕ) (
   -- in the order o: the last receive hands the message over, none before it does, nor do segments that come again behind it, however many
   pub record Served (message : List ℕ) (count : ℕ) (o : List ℕ) : Type 0 where
     pub last : (before : List ℕ) (i : ℕ) → o ≡ before ++ (i ∷ []) → HandsOver (received before i) message
-    pub no_other : (before : List ℕ) (i j : ℕ) (rest : List ℕ) → o ≡ before ++ (i ∷ j ∷ rest) → carried (received before i).answer ≡ none
-    pub not_again : (again : List ℕ) → ((s : ℕ) → 0 < occurs s again → s < count) → (i : ℕ) → i < count → carried (received (o ++ again) i).answer ≡ none
+    pub no_other : (before : List ℕ) (i j : ℕ) (rest : List ℕ) → o ≡ before ++ (i ∷ j ∷ rest) → carried (received before i).answer ≡ None
+    pub not_again : (again : List ℕ) → ((s : ℕ) → 0 < occurs s again → s < count) → (i : ℕ) → i < count → carried (received (o ++ again) i).answer ≡ None
 
 -- every train of demand 3's second half, of however many segments, in each of its orders, with the interval of the receiver's terms
 abbrev pub EveryOrderServed : (Terms → ℕ) → TryNewFunction → StepFunction → Type 0
 EveryOrderServed interval new step =
-    (t : Terms) (made : ℕ) → (new t made).refused ≡ none
+    (t : Terms) (made : ℕ) → (new t made).refused ≡ None
     → (store message : List ℕ) (count : ℕ) (segment : ℕ → WholeSegment)
     → TrainFor t.transaction_id t.version message count segment
     → length message ≤ t.maximum_message_octets → store_octets ≤ length store

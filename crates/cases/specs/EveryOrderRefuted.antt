@@ -1,8 +1,7 @@
 -- What EveryOrder asks can be met, by a train of six segments in each of its 120 orders; and it is refuted of receivers that take segments in rising
 -- order only, that hand over with every End, and that hand over again. Assumes nothing.
-use Rattle.std.specs.Prelude.{ℕ, ◌-◌, ◌<◌, ◌≡◌, refl, Bool, true, cond, ◌||◌, List, [], ◌∷◌, replicate, eqb}
+use Rattle.std.specs.Prelude.{ℕ, ◌-◌, ◌<◌, ◌≡◌, refl, Bool, true, cond, ◌||◌, List, [], ◌∷◌, replicate, eqb, Some, None}
 use Rattle.std.proofs.Common.{subst, arith, lit≤}
-use Rattle.std.proofs.Math.Option.{none, some}
 use Rattle.octets.specs.Octets.{wiped_to, same_octets}
 use Rattle.words.specs.Marks.{marked, sum_below, words_of, all_below, highest_of}
 use Rattle.link.specs.Profile.{known_profile, receiver_interval}
@@ -60,7 +59,7 @@ planned₆ : plan_message 16 6 0 window.Prohibited 1 100 ≡ segmented plan₆
 unfolding plan_message plan_of segment_count
 planned₆ = refl
 
-made₆ : (try_new_of terms₆ 0).refused ≡ none
+made₆ : (try_new_of terms₆ 0).refused ≡ None
 unfolding try_new_of known_profile
 made₆ = refl
 
@@ -100,7 +99,7 @@ rising r store (advance n) = ours r store (advance n)
 rising r store (cancel n) = ours r store (cancel n)
 rising r store (release n) = ours r store (release n)
 
-rising_none : carried (answer rising (0 ∷ 2 ∷ []) 1) ≡ none
+rising_none : carried (answer rising (0 ∷ 2 ∷ []) 1) ≡ None
 unfolding known_profile receiver_interval try_new_of receive_of impossible all_below sum_to empty_slots empty_lengths joined same_octets wiped_to marked words_of sum_below highest_of longer segment_at
 rising_none = refl
 
@@ -110,8 +109,8 @@ rising_refuted s = none_some _ 7 rising_none ((served_so rising s).last (0 ∷ 2
 -- an answer that says of no message that it has 0 octets
 abbrev carrying : Answer → Answer
 carrying (refused n) = refused n
-carrying (answered x none) = answered x (some 0)
-carrying (answered x (some k)) = answered x (some k)
+carrying (answered x None) = answered x (Some 0)
+carrying (answered x (Some k)) = answered x (Some k)
 
 abbrev carrying_if : Bool → Step → Step
 carrying_if b s = record { answer = cond b (carrying s.answer) s.answer; receiver = s.receiver; store = s.store; output = s.output }
@@ -123,7 +122,7 @@ with_end r store (advance n) = ours r store (advance n)
 with_end r store (cancel n) = ours r store (cancel n)
 with_end r store (release n) = ours r store (release n)
 
-with_end_some : carried (answer with_end (0 ∷ []) 2) ≡ some 0
+with_end_some : carried (answer with_end (0 ∷ []) 2) ≡ Some 0
 unfolding known_profile receiver_interval try_new_of receive_of impossible all_below sum_to empty_slots empty_lengths joined same_octets wiped_to marked words_of sum_below highest_of longer segment_at
 with_end_some = refl
 
@@ -137,7 +136,7 @@ again r store (advance n) = ours r store (advance n)
 again r store (cancel n) = ours r store (cancel n)
 again r store (release n) = ours r store (release n)
 
-again_some : carried (answer again (0 ∷ 2 ∷ 1 ∷ []) 1) ≡ some 0
+again_some : carried (answer again (0 ∷ 2 ∷ 1 ∷ []) 1) ≡ Some 0
 unfolding known_profile receiver_interval try_new_of receive_of impossible all_below sum_to empty_slots empty_lengths joined same_octets wiped_to marked words_of sum_below highest_of longer segment_at
 again_some = refl
 

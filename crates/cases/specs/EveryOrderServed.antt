@@ -1,7 +1,6 @@
 -- Every order of every train is served (EveryOrder) by a receiver of which demand 3's second half holds, and so by ours. Assumes nothing.
-use Rattle.std.specs.Prelude.{ℕ, suc, ◌+◌, ◌≤◌, ◌<◌, min, ◌≡◌, refl, ◌⊎◌, List, [], ◌∷◌, ◌++◌, length, get_or}
+use Rattle.std.specs.Prelude.{ℕ, suc, ◌+◌, ◌≤◌, ◌<◌, min, ◌≡◌, refl, ◌⊎◌, List, [], ◌∷◌, ◌++◌, length, get_or, Option, Some, None}
 use Rattle.std.proofs.Common.{sym, ap, subst, ◌∙◌, inl, inr, ⊎_elim, append_assoc, arith, zero-add, length-append, ne_eqb, lt-ltb, le-ltb}
-use Rattle.std.proofs.Math.Option.{Option, none, some}
 use Rattle.std.proofs.Math.Decide.{ℕ_discrete}
 use Rattle.octets.specs.Laws.{le_or_lt}
 use Rattle.tsar.specs.Layout.{WholeSegment}
@@ -173,13 +172,13 @@ first_same : (p : List ℕ) (i : ℕ) (r : List ℕ) → get_or (p ++ (i ∷ r))
 first_same [] i r = refl
 first_same (x ∷ p) i r = refl
 
-never : (m : Option ℕ) → ((k : ℕ) → m ≡ some k → ⊥) → m ≡ none
-never none f = refl
-never (some k) f = absurd (f k refl)
+never : (m : Option ℕ) → ((k : ℕ) → m ≡ Some k → ⊥) → m ≡ None
+never None f = refl
+never (Some k) f = absurd (f k refl)
 
 -- ---- the law
 
-module _ (interval : ℕ) (new : TryNewFunction) (step : StepFunction) (t : Terms) (p : SecondHalfAt interval new step t) (made : ℕ) (e : (new t made).refused ≡ none)
+module _ (interval : ℕ) (new : TryNewFunction) (step : StepFunction) (t : Terms) (p : SecondHalfAt interval new step t) (made : ℕ) (e : (new t made).refused ≡ None)
     (store message : List ℕ) (count : ℕ) (segment : ℕ → WholeSegment) (train : TrainFor t.transaction_id t.version message count segment)
     (fits : length message ≤ t.maximum_message_octets) (stored : store_octets ≤ length store)
     (clock : ℕ → ℕ) (in_time : InTime interval made count clock)
@@ -224,7 +223,7 @@ module _ (interval : ℕ) (new : TryNewFunction) (step : StepFunction) (t : Term
       (not_all before (λ s l. h s (omega (arith, l, occurs_append s before (i ∷ [])))) i k (omega (arith, there, once_in count (before ++ (i ∷ [])) o i k, hit_self i)))
 
   -- none before it does
-  none_before : (before : List ℕ) (i j : ℕ) (rest : List ℕ) → IsOrder count (before ++ (i ∷ j ∷ rest)) → carried (received new step t made store segment clock out before i).answer ≡ none
+  none_before : (before : List ℕ) (i j : ℕ) (rest : List ℕ) → IsOrder count (before ++ (i ∷ j ∷ rest)) → carried (received new step t made store segment clock out before i).answer ≡ None
   none_before before i j rest o =
       let all : List ℕ = before ++ (i ∷ j ∷ rest) in
       let h : (s : ℕ) → 0 < occurs s all → s < count = in_train count all o in
@@ -239,7 +238,7 @@ module _ (interval : ℕ) (new : TryNewFunction) (step : StepFunction) (t : Term
 
   -- nor do segments that come again behind it
   none_again : (o : List ℕ) → IsOrder count o → (again : List ℕ) → ((s : ℕ) → 0 < occurs s again → s < count) → (i : ℕ) → i < count
-      → carried (received new step t made store segment clock out (o ++ again) i).answer ≡ none
+      → carried (received new step t made store segment clock out (o ++ again) i).answer ≡ None
   none_again o c again w i h =
       let all : (s : ℕ) → s < count → 0 < occurs s o = λ s l. omega (arith, once_in count o c s l) in
       let more : (s : ℕ) → 0 < occurs s (again ++ (i ∷ [])) → s < count =

@@ -1,4 +1,5 @@
 // Plans, frozen plans and their dialects, and delivery orders.
+// Each entry hands its arguments on under an exported name (the C interface), so the entries look alike.
 ghost use Rattle.std.specs.Prelude.{◌≡◌};
 ghost use Rattle.plan_c.specs.Calls.{plan_call, plan_message_call, plan_even_call, part_call, plan_segment_call, try_from_frozen_call, convert_call, order_call, delivery_order_call};
 

@@ -1,4 +1,5 @@
 // The receiver. Its record is RECEIVER; record, store and output are lent to each call.
+// Each entry hands its arguments on under an exported name (the C interface), so the entries look alike.
 ghost use Rattle.std.specs.Prelude.{◌≡◌, []};
 ghost use Rattle.receiver_c.specs.Calls.{call, new_call, receive_call, advance_call, cancel_call, release_call};
 

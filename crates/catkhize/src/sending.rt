@@ -1,4 +1,5 @@
 // The sender. Its record is SENDER, lent to each call.
+// Each entry hands its arguments on under an exported name (the C interface), so the entries look alike.
 ghost use Rattle.std.specs.Prelude.{◌≡◌, []};
 ghost use Rattle.sender.specs.TryNew.{offer_of};
 ghost use Rattle.sender_image.specs.Images.{record_of};

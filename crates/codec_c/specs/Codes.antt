@@ -1,8 +1,7 @@
 -- The number that an exported call gives: 0 when it is done, 1 when there is nothing, and 256 * n + m for the refusal n/m. The exports'
 -- own refusals come first: 256, a lent buffer is shorter than its layout; 257, a buffer spells no value; 258, a number names no case. The
 -- papers' n are below 256, so that none of them is one of these.
-use Rattle.std.proofs.Math.Option.{Option, none, some}
-use Rattle.std.specs.Prelude.{ℕ, ◌+◌, ◌*◌}
+use Rattle.std.specs.Prelude.{ℕ, ◌+◌, ◌*◌, Option, Some, None}
 use Rattle.tsar.specs.Rows.{Refusal}
 
 abbrev pub code_of : Refusal → ℕ
@@ -19,5 +18,5 @@ unnamed = (258, 0)
 
 -- a call of which the exports' own tests refuse nothing gives what is said of it, and one that they refuse leaves what it was lent
 abbrev pub unless_refused : {A : Type 0} → Option Refusal → (ℕ → A) → A → A
-unless_refused (some r) left done = left (code_of r)
-unless_refused none left done = done
+unless_refused (Some r) left done = left (code_of r)
+unless_refused None left done = done

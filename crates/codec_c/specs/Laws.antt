@@ -1,8 +1,7 @@
 -- Laws of what the exported codec gives: a call that its own tests refuse, and one that they let pass. Assumes nothing.
-use Rattle.std.specs.Prelude.{◌≡◌, List, ◌++◌, ℕ, ◌+◌, length}
+use Rattle.std.specs.Prelude.{◌≡◌, List, ◌++◌, ℕ, ◌+◌, length, Option, Some, None}
 use Rattle.std.proofs.Common.{sym, ◌∙◌, append-nil, arith, drop_of_length-le, length-append}
 use Rattle.std.proofs.Math.Path.{ap}
-use Rattle.std.proofs.Math.Option.{Option, none, some}
 use Rattle.std.proofs.lemmas.List.Edits.{sets, sets-eq}
 use Rattle.tsar.specs.Rows.{Refusal, refusal}
 use Rattle.tsar.specs.Reading.{Told, told_of, segment_of as decode_of}
@@ -32,7 +31,7 @@ part_spelled z m n h x e f p q =
 -- ---- catkhize_encode
 
 module _ (segment octets : List ℕ) (version : ℕ) (output answer : List ℕ) where
-  pub encode_refused : (r : Refusal) → refusal (encode_tests segment answer) ≡ some r → encode_call (code_of r) output answer ≡ encode_call_of segment octets version output answer
+  pub encode_refused : (r : Refusal) → refusal (encode_tests segment answer) ≡ Some r → encode_call (code_of r) output answer ≡ encode_call_of segment octets version output answer
   unfolding encode_call_of
   encode_refused r e =
       ap
@@ -40,7 +39,7 @@ module _ (segment octets : List ℕ) (version : ℕ) (output answer : List ℕ) 
       unless_refused o (λ n. encode_call n output answer) (encoded_call (encode_of version (segment_of segment) octets output) answer))
       (sym e)
 
-  pub encode_passed : (s : Segment) → refusal (encode_tests segment answer) ≡ none → s ≡ segment_of segment
+  pub encode_passed : (s : Segment) → refusal (encode_tests segment answer) ≡ None → s ≡ segment_of segment
       → encoded_call (encode_of version s octets output) answer ≡ encode_call_of segment octets version output answer
   unfolding encode_call_of
   encode_passed s e q =
@@ -53,11 +52,11 @@ module _ (segment octets : List ℕ) (version : ℕ) (output answer : List ℕ) 
 -- ---- catkhize_decode
 
 module _ (octets : List ℕ) (version : ℕ) (answer : List ℕ) where
-  pub decode_refused : (r : Refusal) → refusal (decode_tests answer) ≡ some r → decode_call (code_of r) answer ≡ decode_call_of octets version answer
+  pub decode_refused : (r : Refusal) → refusal (decode_tests answer) ≡ Some r → decode_call (code_of r) answer ≡ decode_call_of octets version answer
   unfolding decode_call_of
   decode_refused r e = ap (λ (o : Option Refusal). unless_refused o (λ n. decode_call n answer) (decode_gives (told_of (decode_of version octets)) answer)) (sym e)
 
-  pub decode_passed : (d : Told) → refusal (decode_tests answer) ≡ none → d ≡ told_of (decode_of version octets) → decode_gives d answer ≡ decode_call_of octets version answer
+  pub decode_passed : (d : Told) → refusal (decode_tests answer) ≡ None → d ≡ told_of (decode_of version octets) → decode_gives d answer ≡ decode_call_of octets version answer
   unfolding decode_call_of
   decode_passed d e q =
       ap (λ (x : Told). decode_gives x answer) q

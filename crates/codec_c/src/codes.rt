@@ -1,4 +1,5 @@
 // The number that a call gives.
+// The numbers are those of the C interface; an impl of From for a type of another crate cannot stand here.
 ghost use Rattle.std.specs.Prelude.{◌≡◌};
 ghost use Rattle.tsar.specs.Numbers.{number, field_number};
 ghost use Rattle.codec_c.specs.Codes.{code_of};
@@ -58,14 +59,8 @@ fn error_field(e: Error) -> u8
     ensures { result ≡ (number e).1 }
 {
     match e {
-        Error::Version => 0,
-        Error::Truncated => 0,
-        Error::Protocol => 0,
-        Error::MessageType => 0,
-        Error::UnsupportedResponse => 0,
         Error::Field(f) => field_number(f),
-        Error::Reserved => 0,
-        Error::DuplicateParameter => 0,
+        _ => 0,
     }
 }
 
@@ -73,5 +68,5 @@ fn error_field(e: Error) -> u8
 pub fn error_code(e: Error) -> u32
     ensures { result ≡ code_of (number e) }
 {
-    256 * error_number(e) as u32 + error_field(e) as u32
+    256 * u32::from(error_number(e)) + u32::from(error_field(e))
 }

@@ -7,10 +7,10 @@ ghost use Rattle.tsar.specs.Writing.{encode_of};
 ghost use Rattle.codec_c.specs.Calls.{encode_call, encoded_call, encode_call_of, decode_call, decode_call_of, part_image};
 
 use crate::codes::{DONE, MISSPELLED, OUTPUT_TOO_SHORT, SHORT, error_code};
-use image::numbers::put64;
+use image::numbers;
 use image::segments::{HEAD_OCTETS, SEGMENT_OCTETS, get_segment, put_head};
-use tsar::decode::{DecodeAnswer, decode_segment};
-use tsar::encode::EncodeAnswer;
+use tsar::decode::decode_segment;
+use tsar::encode::EncodeError;
 use tsar::{Segment, SegmentHead};
 
 pub mod codes;
@@ -31,12 +31,12 @@ fn encode_into(
     ensures { encode_call result output.new answer.new ≡ encoded_call (encode_of version segment «data».now output.old) answer.old }
 {
     match segment.encode(data, version, output) {
-        EncodeAnswer::Encoded(n) => {
-            put64(answer, 0, n as u64);
+        Ok(n) => {
+            numbers::put(answer, 0, n as u64);
             DONE
         }
-        EncodeAnswer::Refused(e) => error_code(e),
-        EncodeAnswer::OutputTooShort => OUTPUT_TOO_SHORT,
+        Err(EncodeError::Codec(e)) => error_code(e),
+        Err(EncodeError::Output) => OUTPUT_TOO_SHORT,
     }
 }
 
@@ -57,21 +57,19 @@ pub fn catkhize_encode(
     if answer.len() < WRITTEN_OCTETS {
         return SHORT;
     }
-    let read = get_segment(segment);
-    if !read.ok {
+    let Some(segment) = get_segment(segment) else {
         return MISSPELLED;
-    }
-    let s = read.segment;
-    encode_into(s, data, version, output, answer)
+    };
+    encode_into(segment, data, version, output, answer)
 }
 
 // A head and a number behind it, put at the front of octets, as far as they go.
 pub fn put_part(answer: &mut [u8], head: SegmentHead, number: usize)
     ensures { answer.new ≡ sets answer.old 0 (part_image head number) }
 {
-    let mut octets = [0u8; 31];
+    let mut octets = [0u8; PART_OCTETS];
     put_head(&mut octets, 0, head);
-    put64(&mut octets, HEAD_OCTETS, number as u64);
+    numbers::put(&mut octets, HEAD_OCTETS, number as u64);
     octets::put(answer, 0, &octets);
 }
 
@@ -83,10 +81,9 @@ pub fn catkhize_decode(octets: &[u8], version: u8, answer: &mut [u8]) -> u32
         return SHORT;
     }
     match decode_segment(octets, version) {
-        DecodeAnswer::Refused(e) => error_code(e),
-        DecodeAnswer::Decoded(d) => {
-            let head = d.head;
-            put_part(answer, head, d.unparsed_octets);
+        Err(e) => error_code(e),
+        Ok(d) => {
+            put_part(answer, d.head, d.unparsed_octets);
             DONE
         }
     }

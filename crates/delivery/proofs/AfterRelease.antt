@@ -2,12 +2,11 @@
 -- state Canceled and answers as cancel does. Repeats after it get Closed.' When calls allow it; what it leaves; that every receive after it is refused
 -- and changes nothing, with 38 where document 01's tests before 38 pass; and that the store stays wiped whatever calls follow. Its refusals and their
 -- order are in receiver's proofs/Closing. Laws; they assume nothing.
-use Rattle.std.specs.Prelude.{ℕ, ◌≤◌, ◌<◌, ◌≡◌, refl, List, [], ◌∷◌, Bool, true, false, cond, not, ◌&&◌, ◌||◌, length, get_or, eqb, leb}
+use Rattle.std.specs.Prelude.{ℕ, ◌≤◌, ◌<◌, ◌≡◌, refl, List, [], ◌∷◌, Bool, true, false, cond, not, ◌&&◌, ◌||◌, length, get_or, eqb, leb, Option, Some, None}
 use Rattle.std.proofs.Common.{sym, ◌∙◌, subst, arith, le-ltb, eq-eqb, le-leb}
 use Rattle.std.proofs.Math.Path.{ap}
 use Rattle.std.proofs.lemmas.Bool.{false≢true, not-false}
 use Rattle.std.proofs.Math.Bool.{and-false}
-use Rattle.std.proofs.Math.Option.{Option, none, some}
 use Rattle.octets.specs.Octets.{length_wiped, get_d_wiped}
 use Rattle.words.specs.Marks.{marked, no_marks}
 use Rattle.words.specs.Laws.{marked_none}
@@ -51,11 +50,11 @@ module _ (interval : ℕ) (r : Receiver) (a : Arrival) (store out : List ℕ) (f
   closed_refuses =
       by_receive (λ st. (n : Refusal) × (st ≡ refuses n r store out)) interval r a store out (λ n e. (n, refl)) (λ A. never _ f A.takes) ((37, 0), refl) (λ A. never _ f A.takes)
 
-  with_38 : refusal (before38 (receive_rows interval r a store out)) ≡ none → receive_of interval r a store out ≡ refuses (38, 0) r store out
+  with_38 : refusal (before38 (receive_rows interval r a store out)) ≡ None → receive_of interval r a store out ≡ refuses (38, 0) r store out
   unfolding receive_of
   with_38 e = ap (λ (v : Option Refusal). receive_after interval v r a store out) is_38
     where
-      is_38 : refusal (receive_rows interval r a store out) ≡ some (38, 0)
+      is_38 : refusal (receive_rows interval r a store out) ≡ Some (38, 0)
       is_38 =
           refusal_append (before38 (receive_rows interval r a store out)) (from38 (receive_rows interval r a store out))
           ∙ ap (λ (v : Option Refusal). or_else v (refusal (from38 (receive_rows interval r a store out)))) e
@@ -119,7 +118,7 @@ stores_length interval w [] = refl
 stores_length interval w (c ∷ cs) = stores_length interval (then (step_of interval) w c) cs ∙ store_length interval w.receiver w.store c
 
 -- so a receiver that try_new gave and that any calls left Complete can be released, where its store had room, at a reading that isn't below the last
-pub complete_releases : (interval : ℕ) (t : Terms) (made : ℕ) → (try_new_of t made).refused ≡ none → (store : List ℕ) → store_octets ≤ length store → (cs : List Call) → AllFitTypes cs
+pub complete_releases : (interval : ℕ) (t : Terms) (made : ℕ) → (try_new_of t made).refused ≡ None → (store : List ℕ) → store_octets ≤ length store → (cs : List Call) → AllFitTypes cs
     → (now' : ℕ) → (after (step_of interval) (start (try_new_of t made).receiver store) cs).receiver.progress.last_monotonic_ms ≤ now'
     → complete (after (step_of interval) (start (try_new_of t made).receiver store) cs).receiver.progress.state ≡ true
     → is_refused (step_after (step_of interval) (after (step_of interval) (start (try_new_of t made).receiver store) cs) (release now')).answer ≡ false
@@ -131,12 +130,12 @@ complete_releases interval t made e store room cs f now' l c =
     (releases w.receiver w.store now' (omega (arith, room, stores_length interval w₀ cs)) (possible t w b.0 b.1 (profile_known t made e)) l c)
 
 -- a cancel that is not refused answers without a response and without a message
-cancel_answers : (x : Receiver) (l : List ℕ) (n : ℕ) → is_refused (cancel_of x l n).answer ≡ false → answered none none ≡ (cancel_of x l n).answer
-cancel_answers x l n = by_cancel (λ z. is_refused z.answer ≡ false → answered none none ≡ z.answer) x l n (λ k e f. absurd (false≢true (sym f))) (λ K s f. refl)
+cancel_answers : (x : Receiver) (l : List ℕ) (n : ℕ) → is_refused (cancel_of x l n).answer ≡ false → answered None None ≡ (cancel_of x l n).answer
+cancel_answers x l n = by_cancel (λ z. is_refused z.answer ≡ false → answered None None ≡ z.answer) x l n (λ k e f. absurd (false≢true (sym f))) (λ K s f. refl)
 
 module _ (r : Receiver) (store : List ℕ) (now' : ℕ) where
   -- by what it leaves where it is not refused
-  by_released : (P : Step → Type 0) → (Clocked r store now' → P (cancel_after none r store now')) → is_refused (release_of r store now').answer ≡ false → P (release_of r store now')
+  by_released : (P : Step → Type 0) → (Clocked r store now' → P (cancel_after None r store now')) → is_refused (release_of r store now').answer ≡ false → P (release_of r store now')
   by_released P g = by_release (λ z. is_refused z.answer ≡ false → P z) r store now' (λ n e f. absurd (false≢true (sym f))) (λ K s f. g K)
 
   pub release_leaves : is_refused (release_of r store now').answer ≡ false → Released r store now' (release_of r store now')
@@ -154,7 +153,7 @@ module _ (r : Receiver) (store : List ℕ) (now' : ℕ) where
     released_refuses = by_released (λ z. IsClosed interval a z.receiver z.store out) (λ K. closed_to_all interval (closed r Canceled now') a (wiped store) out refl)
 
     -- and a repeat gets Closed: whatever no test refused before the release, at a reading that isn't below the release's
-    pub repeats_closed : refusal (receive_rows interval r a store out) ≡ none → now' ≤ a.reading → is_refused (release_of r store now').answer ≡ false
+    pub repeats_closed : refusal (receive_rows interval r a store out) ≡ None → now' ≤ a.reading → is_refused (release_of r store now').answer ≡ false
         → receive_of interval (release_of r store now').receiver a (release_of r store now').store out ≡ refuses (38, 0) (release_of r store now').receiver (release_of r store now').store out
     repeats_closed e l =
         by_released (λ z. receive_of interval z.receiver a z.store out ≡ refuses (38, 0) z.receiver z.store out)
@@ -163,7 +162,7 @@ module _ (r : Receiver) (store : List ℕ) (now' : ℕ) where
         t : (n : ℕ) → test (receive_rows interval r a store out) n ≡ false
         t = refusal_none (receive_rows interval r a store out) e
 
-        passes : Clocked r store now' → refusal (before38 (receive_rows interval (closed r Canceled now') a (wiped store) out)) ≡ none
+        passes : Clocked r store now' → refusal (before38 (receive_rows interval (closed r Canceled now') a (wiped store) out)) ≡ None
         passes K =
             refusal_pass (before38 (receive_rows interval (closed r Canceled now') a (wiped store) out))
             (le-ltb (length (wiped store)) store_octets (omega (arith, K.room, length_wiped store_octets store))
@@ -202,7 +201,7 @@ neither_closed Canceled c e = refl
 
 -- after it, whatever calls were made since try_new, the receiver takes no segments and every octet of the store's slots is 0: where the store had room,
 -- and at a reading that isn't below the last
-pub given_up : (interval : ℕ) (t : Terms) (made : ℕ) → (try_new_of t made).refused ≡ none → (store : List ℕ) → store_octets ≤ length store → (cs : List Call) → AllFitTypes cs
+pub given_up : (interval : ℕ) (t : Terms) (made : ℕ) → (try_new_of t made).refused ≡ None → (store : List ℕ) → store_octets ≤ length store → (cs : List Call) → AllFitTypes cs
     → (now' : ℕ) → (after (step_of interval) (start (try_new_of t made).receiver store) cs).receiver.progress.last_monotonic_ms ≤ now'
     → GivenUp (step_after (step_of interval) (after (step_of interval) (start (try_new_of t made).receiver store) cs) (giving_up (after (step_of interval) (start (try_new_of t made).receiver store) cs).receiver now'))
 given_up interval t made e store room cs f now' l =
@@ -229,7 +228,7 @@ given_up interval t made e store room cs f now' l =
 
 -- ---- the same of ours
 
-pub own_complete_releases : (t : Terms) (made : ℕ) → (try_new_of t made).refused ≡ none → (store : List ℕ) → store_octets ≤ length store → (cs : List Call) → AllFitTypes cs
+pub own_complete_releases : (t : Terms) (made : ℕ) → (try_new_of t made).refused ≡ None → (store : List ℕ) → store_octets ≤ length store → (cs : List Call) → AllFitTypes cs
     → (now' : ℕ) → (after ours (start (try_new_of t made).receiver store) cs).receiver.progress.last_monotonic_ms ≤ now'
     → complete (after ours (start (try_new_of t made).receiver store) cs).receiver.progress.state ≡ true
     → is_refused (step_after ours (after ours (start (try_new_of t made).receiver store) cs) (release now')).answer ≡ false
@@ -257,7 +256,7 @@ module _ (w : Left) (now' : ℕ) (e : is_refused (release_of w.receiver w.store 
       (ap (λ (v : Left). taking v.receiver.progress.state) same_way
       ∙ (stay_closed (interval_of w.receiver) (then (step_of (interval_of w.receiver)) w (release now')) cs (ap taking (release_leaves w.receiver w.store now' e).canceled)).0)
 
-pub own_given_up : (t : Terms) (made : ℕ) → (try_new_of t made).refused ≡ none → (store : List ℕ) → store_octets ≤ length store → (cs : List Call) → AllFitTypes cs
+pub own_given_up : (t : Terms) (made : ℕ) → (try_new_of t made).refused ≡ None → (store : List ℕ) → store_octets ≤ length store → (cs : List Call) → AllFitTypes cs
     → (now' : ℕ) → (after ours (start (try_new_of t made).receiver store) cs).receiver.progress.last_monotonic_ms ≤ now'
     → GivenUp (step_after ours (after ours (start (try_new_of t made).receiver store) cs) (giving_up (after ours (start (try_new_of t made).receiver store) cs).receiver now'))
 own_given_up t made e store room cs f now' l =

@@ -1,7 +1,6 @@
 -- Document 02, 2026-09: 'receivers serve them as before', of frozen plans under Exceptions. A train of one is a train of the second half, ours hands
 -- its message over with the End, and the second half does not hold of a receiver that refuses a Begin which asks for the window. Assumes nothing.
-use Rattle.std.specs.Prelude.{ℕ, ◌≡◌, refl, List, replicate}
-use Rattle.std.proofs.Math.Option.{none}
+use Rattle.std.specs.Prelude.{ℕ, ◌≡◌, refl, List, replicate, None}
 use Rattle.std.proofs.Common.{lit≤}
 use Rattle.octets.specs.Octets.{wiped_to, same_octets}
 use Rattle.words.specs.Marks.{marked, sum_below, words_of, all_below, highest_of}
@@ -23,7 +22,7 @@ use Rattle.delivery.specs.Refuted.{none_some}
 use Rattle.delivery.specs.ExceptionsServed.{message, train, refuses_exceptions}
 
 -- every train that the frozen check accepts, under any window, is one of the second half's
-pub frozen_served : (q : Proposal) → frozen_refusal q ≡ none → TrainFor (head_at q.heads 0).segment.transaction_id q.version q.message q.count (frozen_train_of (frozen_of q) q.message)
+pub frozen_served : (q : Proposal) → frozen_refusal q ≡ None → TrainFor (head_at q.heads 0).segment.transaction_id q.version q.message q.count (frozen_train_of (frozen_of q) q.message)
 frozen_served q ok = frozen q.heads q.count q.joined q.budget q.ceiling refl ok
 
 pub exceptions_served : TrainFor 0 1 message 2 train
@@ -46,7 +45,7 @@ pub exceptions_handed : HandsOver (end_step ours) message
 unfolding known_profile receiver_interval try_new_of receive_of impossible all_below sum_to empty_slots empty_lengths joined same_octets wiped_to marked words_of sum_below highest_of frozen_segment_at kept_heads data_before bringing_to
 exceptions_handed = (refl, refl)
 
-none_handed : carried (end_step refuses_exceptions).answer ≡ none
+none_handed : carried (end_step refuses_exceptions).answer ≡ None
 unfolding known_profile receiver_interval try_new_of receive_of impossible all_below sum_to empty_slots empty_lengths joined same_octets wiped_to marked words_of sum_below highest_of frozen_segment_at kept_heads data_before bringing_to
 none_handed = refl
 

@@ -5,10 +5,9 @@
 use Prim.Native.Nat.{ℕ, zero, suc, ◌-◌, ◌^◌, ◌≤◌, ◌<◌, min}
 use Rattle.std.proofs.Math.Path.{◌≡◌, refl, subst}
 use Rattle.std.proofs.Common.{sym, inl, inr}
-use Rattle.std.specs.Prelude.{◌⊎◌, length}
+use Rattle.std.specs.Prelude.{◌⊎◌, length, None}
 use Rattle.std.proofs.Math.Logic.{⊎_elim}
 use mathlib.Core.List.{List, [], ◌∷◌, ◌++◌}
-use Rattle.std.proofs.Math.Option.{none}
 use native.Mathlib.Omega.{arith}
 use Rattle.octets.specs.Laws.{le_or_lt}
 use Rattle.tsar.specs.Layout.{WholeSegment}
@@ -143,7 +142,7 @@ module _ (t : Terms) (made : ℕ) (segment : ℕ → WholeSegment) (out : List �
 
 -- the message of every train that is given is handed over with the last segment, where the reading of try_new is at most 2^64 - 1 - interval
 pub in_order : (interval : ℕ) → 0 < interval → (new : TryNewFunction) (step : StepFunction) (t : Terms) → SecondHalfAt interval new step t
-    → (made : ℕ) → (new t made).refused ≡ none → made ≤ 2 ^ 64 - 1 - interval
+    → (made : ℕ) → (new t made).refused ≡ None → made ≤ 2 ^ 64 - 1 - interval
     → (store message : List ℕ) (count : ℕ) (segment : ℕ → WholeSegment) → TrainFor t.transaction_id t.version message count segment
     → length message ≤ t.maximum_message_octets → store_octets ≤ length store
     → (out : List ℕ) → min t.maximum_message_octets store_octets ≤ length out

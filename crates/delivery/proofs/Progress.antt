@@ -1,8 +1,7 @@
 -- A train that is delivered under the conditions: what holds after each of its calls, and that an advance keeps it.
-use Rattle.std.specs.Prelude.{ℕ, ◌≤◌, ◌≡◌, refl, List, [], ◌∷◌, Bool, true, false, length}
+use Rattle.std.specs.Prelude.{ℕ, ◌≤◌, ◌≡◌, refl, List, [], ◌∷◌, Bool, true, false, length, Option, Some, None}
 use Rattle.std.proofs.Common.{sym, ap, ◌∙◌, arith}
 use Rattle.std.proofs.lemmas.Bool.{false≢true, lt-leb}
-use Rattle.std.proofs.Math.Option.{Option, none, some}
 use Rattle.tsar.specs.Rows.{Refusal, refusal}
 use Rattle.tsar.specs.Kinds.{prohibited}
 use Rattle.receiver.specs.declared.ReceiverState.TheVariants.{AwaitingBegin}
@@ -102,5 +101,5 @@ module _ (T : Train) (w : Left) (calls : List Call) (now' : ℕ) (k : HoldingOf 
     advanced = go (refusal (clock_rows r w.store now'))
       where
         go : (v : Option Refusal) → HoldingOf T (taken w (advance now') (advance_after v r w.store now')) (advance now' ∷ calls)
-        go (some n) = same (advance now' ∷ calls) quiet_advance r.progress.last_monotonic_ms (omega (arith, k.read_by, t.never_falls))
-        go none = fired (due r.progress.deadline_monotonic_ms now') (prohibited r.progress.services.acknowledgment_window) (not_due T w calls now' k t)
+        go (Some n) = same (advance now' ∷ calls) quiet_advance r.progress.last_monotonic_ms (omega (arith, k.read_by, t.never_falls))
+        go None = fired (due r.progress.deadline_monotonic_ms now') (prohibited r.progress.services.acknowledgment_window) (not_due T w calls now' k t)

@@ -1,10 +1,9 @@
 -- A whole list of calls under the delivery conditions: what holds after it, and that the message is handed over once every segment has come.
-use Rattle.std.specs.Prelude.{ℕ, ◌≡◌, ◌⊎◌, Bool}
+use Rattle.std.specs.Prelude.{ℕ, ◌≡◌, ◌⊎◌, Bool, Option, Some, None}
 use Rattle.std.proofs.Math.Path.{refl}
 use Rattle.std.proofs.Common.{ap, ◌∙◌, subst, inl, inr, arith}
 use mathlib.Core.List.{List, [], ◌∷◌, ◌++◌}
 use Rattle.std.proofs.Math.Bool.{true, false}
-use Rattle.std.proofs.Math.Option.{Option, none, some}
 use Rattle.tsar.specs.Rows.{Refusal, first_of, refusal, by_rows}
 use Rattle.tsar.specs.Kinds.{prohibited}
 use Rattle.receiver.specs.Record.{late, impossible}
@@ -54,9 +53,9 @@ module _ (T : Train) (C : Arrived T) where
       taken_in_time true p e = never true e refl
       taken_in_time false p e = settled
 
-      go : (v : Option Refusal) → v ≡ none → Next T C (receive_after T.interval v C.w.receiver C.a C.w.store C.out)
-      go (some n) e = absurd (let z : ◌≡◌ {A = ℕ} 0 1 = cc in omega arith)
-      go none e = taken_in_time (late C.w.receiver.progress.deadline_monotonic_ms C.a.reading) (prohibited C.w.receiver.progress.services.acknowledgment_window) (in_time T C)
+      go : (v : Option Refusal) → v ≡ None → Next T C (receive_after T.interval v C.w.receiver C.a C.w.store C.out)
+      go (Some n) e = absurd (let z : ◌≡◌ {A = ℕ} 0 1 = cc in omega arith)
+      go None e = taken_in_time (late C.w.receiver.progress.deadline_monotonic_ms C.a.reading) (prohibited C.w.receiver.progress.services.acknowledgment_window) (in_time T C)
 
 -- calls after calls
 pub after_append : (step : StepFunction) (w : Left) (cs ds : List Call) → after step w (cs ++ ds) ≡ after step (after step w cs) ds

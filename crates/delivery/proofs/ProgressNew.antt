@@ -1,8 +1,7 @@
 -- A delivery of a segment that is not held yet: none of the slots' tests fails it; it is held, and with the last one the message is handed over.
-use Rattle.std.specs.Prelude.{ℕ, suc, ◌+◌, ◌-◌, ◌*◌, ◌≤◌, ◌<◌, ◌≡◌, refl, ◌⊎◌, List, [], ◌∷◌, Bool, true, false, cond, not, ◌&&◌, ◌||◌, length, take, set, eqb, ltb}
+use Rattle.std.specs.Prelude.{ℕ, suc, ◌+◌, ◌-◌, ◌*◌, ◌≤◌, ◌<◌, ◌≡◌, refl, ◌⊎◌, List, [], ◌∷◌, Bool, true, false, cond, not, ◌&&◌, ◌||◌, length, take, set, eqb, ltb, Option, Some, None}
 use Rattle.std.proofs.Common.{sym, ap, ◌∙◌, subst, inl, inr, arith, eqb-true, le-ltb, ne_eqb}
 use Rattle.std.proofs.Math.Bool.{and-false}
-use Rattle.std.proofs.Math.Option.{Option, none, some}
 use Rattle.std.proofs.lemmas.List.Edits.{sets}
 use Rattle.std.proofs.Math.Seq.{length-sets}
 use Rattle.std.proofs.lemmas.Bool.{eqb-false}
@@ -11,15 +10,10 @@ use Rattle.words.specs.Search.{all_below_true, all_below_all, all_below_false}
 use Rattle.tsar.specs.Layout.{WholeSegment}
 use Rattle.tsar.specs.Kinds.{is_begin, is_continue, is_end, compresses, selects_crc, has_crc, states_other}
 use Rattle.tsar.specs.Writing.{length_in, crc_in}
-use Rattle.tsar.specs.declared.MessageLength.{MessageLength}
 use Rattle.tsar.specs.declared.SegmentKind.{SegmentKind}
 use Rattle.tsar.specs.declared.SegmentKind.TheVariants.{Begin, Continue, End}
 use Rattle.receiver.specs.declared.ReceiverState.{ReceiverState}
 use Rattle.receiver.specs.declared.ReceiverState.TheVariants.{Receiving, Complete}
-use Rattle.receiver.specs.declared.EndSequence.{EndSequence}
-use Rattle.receiver.specs.declared.EndSequence.TheVariants as end
-use Rattle.receiver.specs.declared.Deadline.{Deadline}
-use Rattle.receiver.specs.declared.Deadline.TheVariants as deadline
 use Rattle.receiver.specs.declared.Terms.{Terms}
 use Rattle.receiver.specs.declared.Progress.{Progress}
 use Rattle.receiver.specs.declared.Receiver.{Receiver}
@@ -40,16 +34,16 @@ neither : (a b : Bool) → a ≡ false → b ≡ false → (a || b) ≡ false
 neither a b p q = rw (p, q)
 
 -- the end with a segment: its number where it is an End, else the one there is
-end_of_lem : (P : EndSequence → Type 0) (old : EndSequence) (k : SegmentKind) (q : ℕ) → (is_end k ≡ true → P (end.At q)) → (is_end k ≡ false → P old) → P (end_of old k q)
+end_of_lem : (P : Option ℕ → Type 0) (old : Option ℕ) (k : SegmentKind) (q : ℕ) → (is_end k ≡ true → P (Some q)) → (is_end k ≡ false → P old) → P (end_of old k q)
 end_of_lem P old (Begin n s) q new same = same refl
 end_of_lem P old (Continue n) q new same = same refl
 end_of_lem P old (End n c) q new same = new refl
 
 -- what is not there among one more was not there
-find_less : (x : WholeSegment) (acc : List WholeSegment) (s : ℕ) → find s (x ∷ acc) ≡ none → find s acc ≡ none
+find_less : (x : WholeSegment) (acc : List WholeSegment) (s : ℕ) → find s (x ∷ acc) ≡ None → find s acc ≡ None
 find_less x acc s f = go (eqb x.sequence_number s) refl f
   where
-    go : (b : Bool) → eqb x.sequence_number s ≡ b → cond b (some x) (find s acc) ≡ none → find s acc ≡ none
+    go : (b : Bool) → eqb x.sequence_number s ≡ b → cond b (Some x) (find s acc) ≡ None → find s acc ≡ None
     go true e g = cc
     go false e g = g
 
@@ -89,11 +83,11 @@ module _ (T : Train) (C : Arrived T) (free : is_held C.w.receiver (sequence C.a)
   kind_is = C.meets.brings.same_kind_lem
 
   -- none was accepted with its number
-  unfound : find (sequence a) acc ≡ none
+  unfound : find (sequence a) acc ≡ None
   unfound = free_unaccepted T C (sequence a) small free
 
   -- that is, with the segment's
-  unfound_i : find i acc ≡ none
+  unfound_i : find i acc ≡ None
   unfound_i = ap (λ (n : ℕ). find n acc) (sym is_number) ∙ unfound
 
   -- ---- it fails none of the tests
@@ -147,7 +141,7 @@ module _ (T : Train) (C : Arrived T) (free : is_held C.w.receiver (sequence C.a)
       go t h false q = ap not (and-false (ltb (sequence a) t))
 
   -- nor was an End accepted yet
-  last_unfound : is_end (kind a) ≡ true → find (last_of T) acc ≡ none
+  last_unfound : is_end (kind a) ≡ true → find (last_of T) acc ≡ None
   last_unfound e =
       let z : i ≡ last_of T = omega (arith, is_last e) in
       ap (λ (n : ℕ). find n acc) (sym z) ∙ unfound_i
@@ -160,25 +154,25 @@ module _ (T : Train) (C : Arrived T) (free : is_held C.w.receiver (sequence C.a)
       go true e =
           neither _ _
           (neither _ _ (ne_eqb (sequence a) 0 (λ z. omega (arith, is_number, is_last e, T.cutting.at_least)))
-          (ap (λ (v : EndSequence). other_end v (sequence a)) (C.holding.no_end (last_unfound e))))
+          (ap (λ (v : Option ℕ). other_end v (sequence a)) (C.holding.no_end (last_unfound e))))
           (ap not (clear e))
       go false e = refl
 
   -- an end that is known is the train's
-  end_is : (p.end_sequence ≡ end.Unknown) ⊎ (p.end_sequence ≡ end.At (last_of T))
+  end_is : (p.end_sequence ≡ None) ⊎ (p.end_sequence ≡ Some (last_of T))
   end_is = go (find (last_of T) acc) refl
     where
-      go : (o : Option WholeSegment) → find (last_of T) acc ≡ o → (p.end_sequence ≡ end.Unknown) ⊎ (p.end_sequence ≡ end.At (last_of T))
-      go none e = inl (C.holding.no_end e)
-      go (some y) e = inr (C.holding.at_end (ap absent e))
+      go : (o : Option WholeSegment) → find (last_of T) acc ≡ o → (p.end_sequence ≡ None) ⊎ (p.end_sequence ≡ Some (last_of T))
+      go None e = inl (C.holding.no_end e)
+      go (Some y) e = inr (C.holding.at_end (ap absent e))
 
   -- and the segment is not past it
   pub not_past : past_end p.end_sequence (sequence a) ≡ false
   not_past = go end_is
     where
-      go : (p.end_sequence ≡ end.Unknown) ⊎ (p.end_sequence ≡ end.At (last_of T)) → past_end p.end_sequence (sequence a) ≡ false
-      go (inl e) = ap (λ (v : EndSequence). past_end v (sequence a)) e
-      go (inr e) = ap (λ (v : EndSequence). past_end v (sequence a)) e ∙ le-ltb (last_of T) (sequence a) (omega (arith, is_number, in_train))
+      go : (p.end_sequence ≡ None) ⊎ (p.end_sequence ≡ Some (last_of T)) → past_end p.end_sequence (sequence a) ≡ false
+      go (inl e) = ap (λ (v : Option ℕ). past_end v (sequence a)) e
+      go (inr e) = ap (λ (v : Option ℕ). past_end v (sequence a)) e ∙ le-ltb (last_of T) (sequence a) (omega (arith, is_number, in_train))
 
   -- a length that it states is the message's
   states_here : states_other (length_in (kind a)) (length T.message) ≡ false
@@ -188,7 +182,7 @@ module _ (T : Train) (C : Arrived T) (free : is_held C.w.receiver (sequence C.a)
   pub lengths_agree : clash p.message_length (length_in (kind a)) ≡ false
   lengths_agree = no_clash p.message_length (length_in (kind a)) (length T.message) C.holding.agrees states_here
 
-  abbrev stated' : MessageLength
+  abbrev stated' : Option ℕ
   stated' = stated_of C.w.receiver.progress.message_length (length_in (kind C.a))
 
   -- the stated length with it is the message's
@@ -226,26 +220,26 @@ module _ (T : Train) (C : Arrived T) (free : is_held C.w.receiver (sequence C.a)
   pub not_over : states_below stated' (p.stored_octets + length a.octets) ≡ false
   not_over = not_below stated' (length T.message) (p.stored_octets + length a.octets) still_agrees enough
 
-  abbrev end' : EndSequence
+  abbrev end' : Option ℕ
   end' = end_of C.w.receiver.progress.end_sequence (kind C.a) (sequence C.a)
 
   -- the end that is then known is the train's
-  end_known : (e : ℕ) → end' ≡ end.At e → suc e ≡ T.count
+  end_known : (e : ℕ) → end' ≡ Some e → suc e ≡ T.count
   end_known e =
-      end_of_lem (λ v. v ≡ end.At e → suc e ≡ T.count) p.end_sequence (kind a) (sequence a)
+      end_of_lem (λ v. v ≡ Some e → suc e ≡ T.count) p.end_sequence (kind a) (sequence a)
       (λ q z.
       let y : sequence a ≡ e = cc in
       omega (arith, is_number, is_last q))
       (λ q z. go z end_is)
     where
-      go : p.end_sequence ≡ end.At e → (p.end_sequence ≡ end.Unknown) ⊎ (p.end_sequence ≡ end.At (last_of T)) → suc e ≡ T.count
+      go : p.end_sequence ≡ Some e → (p.end_sequence ≡ None) ⊎ (p.end_sequence ≡ Some (last_of T)) → suc e ≡ T.count
       go z (inl u) = absurd (let y : ◌≡◌ {A = ℕ} 0 1 = cc in omega arith)
       go z (inr u) = let y : last_of T ≡ e = cc in omega (arith, T.cutting.at_least)
 
   -- without the End no end is known
-  no_end' : find (last_of T) acc' ≡ none → end' ≡ end.Unknown
+  no_end' : find (last_of T) acc' ≡ None → end' ≡ None
   no_end' f =
-      end_of_lem (λ v. v ≡ end.Unknown) p.end_sequence (kind a) (sequence a)
+      end_of_lem (λ v. v ≡ None) p.end_sequence (kind a) (sequence a)
       (λ q.
       let z : sequence a ≡ last_of T = omega (arith, is_number, is_last q) in
       let y = find_here (brought a) acc (last_of T) z in
@@ -253,15 +247,15 @@ module _ (T : Train) (C : Arrived T) (free : is_held C.w.receiver (sequence C.a)
       (λ q. C.holding.no_end (find_less (brought a) acc (last_of T) f))
 
   -- with it its number is
-  at_end' : absent (find (last_of T) acc') ≡ false → end' ≡ end.At (last_of T)
+  at_end' : absent (find (last_of T) acc') ≡ false → end' ≡ Some (last_of T)
   at_end' f =
-      end_of_lem (λ v. v ≡ end.At (last_of T)) p.end_sequence (kind a) (sequence a)
+      end_of_lem (λ v. v ≡ Some (last_of T)) p.end_sequence (kind a) (sequence a)
       (λ q.
       let z : sequence a ≡ last_of T = omega (arith, is_number, is_last q) in
-      ap end.At z)
+      ap Some z)
       (λ q. go q (eqb (sequence a) (last_of T)) refl f)
     where
-      go : is_end (kind a) ≡ false → (b : Bool) → eqb (sequence a) (last_of T) ≡ b → absent (cond b (some (brought a)) (find (last_of T) acc)) ≡ false → p.end_sequence ≡ end.At (last_of T)
+      go : is_end (kind a) ≡ false → (b : Bool) → eqb (sequence a) (last_of T) ≡ b → absent (cond b (Some (brought a)) (find (last_of T) acc)) ≡ false → p.end_sequence ≡ Some (last_of T)
       go q true e g =
           let z : suc i ≡ T.count = omega (arith, is_number, eqb-true (sequence a) (last_of T) e, T.cutting.at_least) in
           never _ q (ap is_end kind_is ∙ last_ends T.cutting i z)
@@ -278,32 +272,32 @@ module _ (T : Train) (C : Arrived T) (free : is_held C.w.receiver (sequence C.a)
       go false q f = find_present (brought a) acc t (held_accepted T C t h f)
 
   -- one that does not is not
-  leaves : (t : ℕ) → t < 256 → (eqb t (sequence a) || marked r.held t) ≡ false → find t acc' ≡ none
+  leaves : (t : ℕ) → t < 256 → (eqb t (sequence a) || marked r.held t) ≡ false → find t acc' ≡ None
   leaves t h e =
       let q = or_left (eqb t (sequence a)) (marked r.held t) e in
       let f = or_right (eqb t (sequence a)) (marked r.held t) e in
       rw (ne_eqb (sequence a) t (λ z. eqb-false t (sequence a) q (sym z))) (free_unaccepted T C t h f)
 
   -- where the slots up to the end are full all are accepted
-  full_all : (v : EndSequence) → end' ≡ v → full_with r.held (sequence a) v ≡ true → (j : ℕ) → j < T.count → absent (find j acc') ≡ false
-  full_all end.Unknown q f j h = never false refl f
-  full_all (end.At e) q f j h =
+  full_all : (v : Option ℕ) → end' ≡ v → full_with r.held (sequence a) v ≡ true → (j : ℕ) → j < T.count → absent (find j acc') ≡ false
+  full_all None q f j h = never false refl f
+  full_all (Some e) q f j h =
       let l = end_known e q in
       fills j (omega (arith, T.cutting.at_most)) (all_below_true (suc e) (λ t. eqb t (sequence a) || marked r.held t) f j (omega arith))
 
   record Missing : Type 0 where
     at : ℕ
     in_it : at < T.count
-    none_there : find at acc' ≡ none
+    none_there : find at acc' ≡ None
 
   -- else one is missing
-  not_full : (v : EndSequence) → end' ≡ v → full_with r.held (sequence a) v ≡ false → Missing
-  not_full end.Unknown q f = record { at = last_of T; in_it = omega (arith, T.cutting.at_least); none_there = go (absent (find (last_of T) acc')) refl }
+  not_full : (v : Option ℕ) → end' ≡ v → full_with r.held (sequence a) v ≡ false → Missing
+  not_full None q f = record { at = last_of T; in_it = omega (arith, T.cutting.at_least); none_there = go (absent (find (last_of T) acc')) refl }
     where
-      go : (b : Bool) → absent (find (last_of T) acc') ≡ b → find (last_of T) acc' ≡ none
+      go : (b : Bool) → absent (find (last_of T) acc') ≡ b → find (last_of T) acc' ≡ None
       go true e = missing (find (last_of T) acc') e
       go false e = absurd (let u : ◌≡◌ {A = ℕ} 0 1 = cc (at_end' e) in omega arith)
-  not_full (end.At e) q f =
+  not_full (Some e) q f =
       let m = all_below_false (suc e) (λ t. eqb t (sequence a) || marked r.held t) f in
       let l = end_known e q in
       record { at = m.0; in_it = omega (arith, m.1); none_there = leaves m.0 (omega (arith, m.1, T.cutting.at_most)) m.2 }
@@ -334,14 +328,14 @@ module _ (T : Train) (C : Arrived T) (free : is_held C.w.receiver (sequence C.a)
   seen' s h (inr c) = find_present (brought a) acc s (C.holding.seen s h c)
 
   -- and what is accepted has come
-  shown' : (s : ℕ) (y : WholeSegment) → find s acc' ≡ some y → HasCome (T.segment s) calls'
+  shown' : (s : ℕ) (y : WholeSegment) → find s acc' ≡ Some y → HasCome (T.segment s) calls'
   shown' s y f =
       find_new (λ z. Brings (T.segment s) a ⊎ HasCome (T.segment s) C.calls) (brought a) acc s y f
       (λ e. inl (subst (λ (n : ℕ). Brings (T.segment n) a) (sym is_number ∙ e) C.meets.brings))
       (λ g. inr (C.holding.shown s y g))
 
   -- the rest holds in the state and with the deadline that it leaves
-  holding' : (state : ReceiverState) (d : Deadline) (handed : List HandOver) → (receiving state ≡ true → d ≡ deadline.At (a.reading + T.interval)) → (receiving state ≡ false → d ≡ deadline.Off)
+  holding' : (state : ReceiverState) (d : Option ℕ) (handed : List HandOver) → (receiving state ≡ true → d ≡ Some (a.reading + T.interval)) → (receiving state ≡ false → d ≡ None)
       → Phase T state acc' handed calls'
       → Holding T r.terms state end' stated' (p.stored_octets + length a.octets) d a.reading store' acc' handed calls'
   holding' state d handed on off f = record {
@@ -364,7 +358,7 @@ module _ (T : Train) (C : Arrived T) (free : is_held C.w.receiver (sequence C.a)
   pub goes_on : full_with r.held (sequence a) end' ≡ false → Next T C (settle T.interval keeps r a C.w.store C.out)
   goes_on f =
       let m = not_full end' refl f in
-      rw unfound (holding' Receiving (deadline.At (a.reading + T.interval)) C.w.handed (λ e. refl) (λ e. never true e refl) (going refl nothing_handed m.at m.in_it m.none_there))
+      rw unfound (holding' Receiving (Some (a.reading + T.interval)) C.w.handed (λ e. refl) (λ e. never true e refl) (going refl nothing_handed m.at m.in_it m.none_there))
 
   -- the message that is handed over
   abbrev message' : List ℕ
@@ -376,6 +370,6 @@ module _ (T : Train) (C : Arrived T) (free : is_held C.w.receiver (sequence C.a)
   -- it is handed over, where all are there
   pub hands_over : full_with r.held (sequence a) end' ≡ true → Next T C (settle T.interval finishes r a C.w.store C.out)
   hands_over f =
-      rw unfound (holding' Complete deadline.Off _ (λ e. never false refl e) (λ e. refl)
+      rw unfound (holding' Complete None _ (λ e. never false refl e) (λ e. refl)
       (done refl (full_all end' refl f) (length message') given'
       (ap {B = List HandOver} (λ (l : List HandOver). record { count = length message'; message = given'; accepted = acc' } ∷ l) nothing_handed)))

@@ -1,7 +1,6 @@
 -- A delivery that meets the conditions is not refused: it passes receive's tests, the codec's among them, and it is not late.
-use Rattle.std.specs.Prelude.{ℕ, ◌≤◌, ◌<◌, min, ◌≡◌, refl, List, Bool, true, false, not, ◌&&◌, length}
+use Rattle.std.specs.Prelude.{ℕ, ◌≤◌, ◌<◌, min, ◌≡◌, refl, List, Bool, true, false, not, ◌&&◌, length, Option, Some, None}
 use Rattle.std.proofs.Common.{sym, ap, ◌∙◌, subst, arith, le-ltb, eq-eqb}
-use Rattle.std.proofs.Math.Option.{Option, none, some}
 use Rattle.tsar.specs.Rows.{refusal, test, refusal_none, refusal_pass}
 use Rattle.tsar.specs.Layout.{WholeSegment}
 use Rattle.tsar.specs.Kinds.{is_begin}
@@ -74,16 +73,16 @@ module _ (T : Train) (C : Arrived T) where
   held_accepted s h e = go (find s acc) (slot_holds s h)
     where
       go : (o : Option WholeSegment) → HoldsAt r C.w.store s o → absent o ≡ false
-      go none p = never _ p e
-      go (some y) p = refl
+      go None p = never _ p e
+      go (Some y) p = refl
 
   -- one that isn't held has none
-  pub free_unaccepted : (s : ℕ) → s < 256 → is_held r s ≡ false → find s acc ≡ none
+  pub free_unaccepted : (s : ℕ) → s < 256 → is_held r s ≡ false → find s acc ≡ None
   free_unaccepted s h e = go (find s acc) (slot_holds s h)
     where
-      go : (o : Option WholeSegment) → HoldsAt r C.w.store s o → o ≡ none
-      go none p = refl
-      go (some y) p = never _ e p.0
+      go : (o : Option WholeSegment) → HoldsAt r C.w.store s o → o ≡ None
+      go None p = refl
+      go (Some y) p = never _ e p.0
 
   -- a held slot is one of the train's
   pub held_in : (s : ℕ) → s < 256 → is_held r s ≡ true → s < T.count
@@ -105,7 +104,7 @@ module _ (T : Train) (C : Arrived T) where
   long_enough = rw C.holding.terms_are C.meets.long_enough
 
   -- while the Begin is awaited nothing was delivered
-  none_yet : Here → awaiting r.progress.state ≡ true → last_delivery C.calls ≡ none
+  none_yet : Here → awaiting r.progress.state ≡ true → last_delivery C.calls ≡ None
   none_yet (waiting e f g d) t = d
   none_yet (going e f j l g) t = never _ (rw e) t
   none_yet (done e f n m g) t = never _ (rw e) t
@@ -130,18 +129,18 @@ module _ (T : Train) (C : Arrived T) where
   }
 
   -- the codec takes it
-  codec_passes : refusal (codec_rows r.terms.version a.segment (length a.octets)) ≡ none
+  codec_passes : refusal (codec_rows r.terms.version a.segment (length a.octets)) ≡ None
   codec_passes =
-      subst (λ (t : Terms). refusal (codec_rows t.version a.segment (length a.octets)) ≡ none) (sym C.holding.terms_are)
-      (subst (λ (l : List ℕ). refusal (codec_rows T.terms.version a.segment (length l)) ≡ none) (sym C.meets.brings.same_data)
-      (subst (λ (h : Segment). refusal (codec_rows T.terms.version h (length x.segment_data)) ≡ none) head_is (T.codec i C.meets.in_train)))
+      subst (λ (t : Terms). refusal (codec_rows t.version a.segment (length a.octets)) ≡ None) (sym C.holding.terms_are)
+      (subst (λ (l : List ℕ). refusal (codec_rows T.terms.version a.segment (length l)) ≡ None) (sym C.meets.brings.same_data)
+      (subst (λ (h : Segment). refusal (codec_rows T.terms.version h (length x.segment_data)) ≡ None) head_is (T.codec i C.meets.in_train)))
 
   -- none of the codec's tests holds
   codec_test : (n : ℕ) → test (codec_rows r.terms.version a.segment (length a.octets)) n ≡ false
   codec_test = refusal_none (codec_rows r.terms.version a.segment (length a.octets)) codec_passes
 
   -- none of receive's tests holds
-  pub passes : refusal (receive_rows T.interval r a C.w.store C.out) ≡ none
+  pub passes : refusal (receive_rows T.interval r a C.w.store C.out) ≡ None
   passes =
       refusal_pass (receive_rows T.interval r a C.w.store C.out)
       (le-ltb _ _ C.holding.room

@@ -1,8 +1,7 @@
 -- A receiver that was released after the hand-over: it stays closed and hands nothing over again. What was handed over while a train is delivered.
-use Rattle.std.specs.Prelude.{ℕ, ◌<◌, ◌≡◌, refl, ◌⊎◌, Bool, true, false}
+use Rattle.std.specs.Prelude.{ℕ, ◌<◌, ◌≡◌, refl, ◌⊎◌, Bool, true, false, Option}
 use Rattle.std.proofs.Common.{sym, ap, ◌∙◌, subst, inl, inr, arith}
 use mathlib.Core.List.{List, [], ◌∷◌, map, nil≢cons}
-use Rattle.std.proofs.Math.Option.{Option}
 use Rattle.tsar.specs.Layout.{WholeSegment}
 use Rattle.receiver.specs.Record.{taking, complete}
 use Rattle.receiver.specs.Answers.{Step}

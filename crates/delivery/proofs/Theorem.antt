@@ -1,8 +1,8 @@
 -- Demand 3 holds of the receiver, for any interval and so for that of each profile, and none of its calls is refused with 62.
-use Rattle.std.specs.Prelude.{ℕ, ◌≤◌, ◌<◌, ◌≡◌, refl, ◌⊎◌, length, take, drop}
+use Rattle.std.specs.Prelude.{ℕ, ◌≤◌, ◌<◌, ◌≡◌, refl, ◌⊎◌, length, take, drop, Option, Some, None}
 use Rattle.std.proofs.Common.{sym, ap, ◌∙◌, subst, inl, inr, arith, length-drop, length-take-le}
 use mathlib.Core.List.{List, [], ◌∷◌, ◌++◌, map, nil≢cons, cons≢nil, head-eq_of_cons-eq, tail-eq_of_cons-eq}
-use Rattle.std.proofs.Math.Option.{Option, none, some}
+use Rattle.segmentation.specs.declared.PlannedPart.{PlannedPart}
 use Rattle.link.specs.Profile.{receiver_interval}
 use Rattle.tsar.specs.Rows.{refusal}
 use Rattle.tsar.specs.Layout.{WholeSegment}
@@ -14,7 +14,6 @@ use Rattle.segmentation.specs.Joined.{cutting_cong}
 use Rattle.segmentation.specs.Planned.{Spread, full, even, planning}
 use Rattle.segmentation.proofs.Planned.{plan_segment, plan_range, plan_codec, plan_cutting}
 use Rattle.segmentation.specs.declared.SegmentedMessage.{SegmentedMessage}
-use Rattle.segmentation.specs.declared.PlannedSegment.{PlannedSegment}
 use Rattle.receiver.specs.declared.Terms.{Terms}
 use Rattle.receiver.specs.declared.Receiver.{Receiver}
 use Rattle.receiver.specs.Record.{store_octets}
@@ -85,12 +84,12 @@ messages hs = map (λ (h : HandOver). h.message) hs
 
 -- a call after which the message alone was handed over, and nothing before it, hands it over
 told : (message : List ℕ) (m : Option ℕ) (out : List ℕ) (acc : List WholeSegment) (hs : List HandOver) → hs ≡ [] → messages (add_handed m out acc hs) ≡ message ∷ []
-    → AllOfAccepted (add_handed m out acc hs) → (m ≡ some (length message)) × (take (length message) out ≡ message)
-told message none out acc hs e f R = absurd (nil≢cons (ap messages (sym e) ∙ f))
-told message (some n) out acc hs e f R =
+    → AllOfAccepted (add_handed m out acc hs) → (m ≡ Some (length message)) × (take (length message) out ≡ message)
+told message None out acc hs e f R = absurd (nil≢cons (ap messages (sym e) ∙ f))
+told message (Some n) out acc hs e f R =
     let g : take n out ≡ message = head-eq_of_cons-eq f in
     let q : n ≡ length message = sym R.0.long_as_counted ∙ ap length g in
-    (ap {B = Option ℕ} some q, subst (λ (k : ℕ). take k out ≡ message) q g)
+    (ap {B = Option ℕ} Some q, subst (λ (k : ℕ). take k out ≡ message) q g)
 
 module _ (T : Train) (w : Left) (cs : List Call) (c : Call) (before : Delivered T w (latest_first [] cs))
     (with_it : Delivered T (then (step_of T.interval) w c) (latest_first [] (cs ++ (c ∷ [])))) where
@@ -133,7 +132,7 @@ module _ (interval : ℕ) (t : Terms) (made : ℕ) (x : Spread) (message : List 
     (ok : planning x (length message) budget t.transaction_id w t.version ceiling ≡ segmented p) (fits : length message ≤ t.maximum_message_octets) where
   -- segment i of the public call is the plan's
   given : (i : ℕ) → i < p.count → planned_whole p message i ≡ train_of p message i
-  given i h = ap (λ (s : PlannedSegment). given_segment s message) (sym (plan_segment x (length message) budget t.transaction_id w t.version ceiling p ok i h))
+  given i h = ap (λ (s : Option PlannedPart). given_segment s message) (sym (plan_segment x (length message) budget t.transaction_id w t.version ceiling p ok i h))
 
   -- its data are as long as its head says
   planned_length : (i : ℕ) → i < p.count → length (take (part_length p i) (drop (part_start p i) message)) ≡ part_length p i
@@ -142,10 +141,10 @@ module _ (interval : ℕ) (t : Terms) (made : ℕ) (x : Spread) (message : List 
       (rw length-drop (omega (arith, plan_range x (length message) budget t.transaction_id w t.version ceiling p ok i h)))
 
   -- the codec takes it
-  codec_takes : (i : ℕ) → i < p.count → refusal (codec_rows t.version (head_of (train_of p message i)) (length (train_of p message i).segment_data)) ≡ none
+  codec_takes : (i : ℕ) → i < p.count → refusal (codec_rows t.version (head_of (train_of p message i)) (length (train_of p message i).segment_data)) ≡ None
   codec_takes i h =
-      subst (λ (s : WholeSegment). refusal (codec_rows t.version (head_of s) (length s.segment_data)) ≡ none) (given i h)
-      (subst (λ (n : ℕ). refusal (codec_rows t.version (planned_head p i).segment n) ≡ none) (sym (planned_length i h))
+      subst (λ (s : WholeSegment). refusal (codec_rows t.version (head_of s) (length s.segment_data)) ≡ None) (given i h)
+      (subst (λ (n : ℕ). refusal (codec_rows t.version (planned_head p i).segment n) ≡ None) (sym (planned_length i h))
       (plan_codec x (length message) budget t.transaction_id w t.version ceiling p ok i))
 
   -- so they are a train
@@ -165,7 +164,7 @@ module _ (interval : ℕ) (t : Terms) (made : ℕ) (x : Spread) (message : List 
 -- ---- the train of a frozen plan
 
 module _ (interval : ℕ) (t : Terms) (made : ℕ) (q : Proposal) (same_transaction : (head_at q.heads 0).segment.transaction_id ≡ t.transaction_id) (same_version : q.version ≡ t.version)
-    (ok : frozen_refusal q ≡ none) (within : length q.message ≤ t.maximum_message_octets) where
+    (ok : frozen_refusal q ≡ None) (within : length q.message ≤ t.maximum_message_octets) where
   abbrev ok_all : Acceptable q
   ok_all = frozen_acceptable q ok
 
@@ -173,7 +172,7 @@ module _ (interval : ℕ) (t : Terms) (made : ℕ) (q : Proposal) (same_transact
   frozen_given : (i : ℕ) → i < q.count → proposed q i ≡ frozen_train_of (frozen_of q) q.message i
   frozen_given i h =
       ap (λ (l : List ℕ). whole (head_at q.heads i).segment (take (head_at q.heads i).segment_data_length (drop (data_before q.heads i) l))) (joined_message q ok_all.sums ok_all.cutting)
-      ∙ ap (λ (s : PlannedSegment). given_segment s q.message) (sym (frozen_segment q ok i h))
+      ∙ ap (λ (s : Option PlannedPart). given_segment s q.message) (sym (frozen_segment q ok i h))
 
   -- its data are as long as its head says
   frozen_length : (i : ℕ) → i < q.count → length (proposed q i).segment_data ≡ (head_at q.heads i).segment_data_length
@@ -181,11 +180,11 @@ module _ (interval : ℕ) (t : Terms) (made : ℕ) (q : Proposal) (same_transact
       length-take-le (head_at q.heads i).segment_data_length (drop (data_before q.heads i) q.joined)
       (rw length-drop (omega (arith, cut_within q ok_all.sums ok_all.cutting i h, ap length (joined_message q ok_all.sums ok_all.cutting))))
 
-  frozen_codec : (i : ℕ) → i < q.count → refusal (codec_rows t.version (head_of (frozen_train_of (frozen_of q) q.message i)) (length (frozen_train_of (frozen_of q) q.message i).segment_data)) ≡ none
+  frozen_codec : (i : ℕ) → i < q.count → refusal (codec_rows t.version (head_of (frozen_train_of (frozen_of q) q.message i)) (length (frozen_train_of (frozen_of q) q.message i).segment_data)) ≡ None
   frozen_codec i h =
-      subst (λ (x : WholeSegment). refusal (codec_rows t.version (head_of x) (length x.segment_data)) ≡ none) (frozen_given i h)
-      (subst (λ (n : ℕ). refusal (codec_rows t.version (head_at q.heads i).segment n) ≡ none) (sym (frozen_length i h))
-      (subst (λ (v : ℕ). refusal (codec_rows v (head_at q.heads i).segment (head_at q.heads i).segment_data_length) ≡ none) same_version (ok_all.codec i h)))
+      subst (λ (x : WholeSegment). refusal (codec_rows t.version (head_of x) (length x.segment_data)) ≡ None) (frozen_given i h)
+      (subst (λ (n : ℕ). refusal (codec_rows t.version (head_at q.heads i).segment n) ≡ None) (sym (frozen_length i h))
+      (subst (λ (v : ℕ). refusal (codec_rows v (head_at q.heads i).segment (head_at q.heads i).segment_data_length) ≡ None) same_version (ok_all.codec i h)))
 
   abbrev frozen_train : Train
   frozen_train = record {
@@ -210,7 +209,7 @@ conditions_front interval t made count segment before [] ds D = tt
 conditions_front interval t made count segment before (c ∷ cs) ds D = (D.0, conditions_front interval t made count segment (c ∷ before) cs ds D.1)
 
 -- what is known of every list of calls on a receiver that try_new gave
-known : (T : Train) → (try_new_of T.terms T.made).refused ≡ none → (store : List ℕ) → Known T (start (try_new_of T.terms T.made).receiver store)
+known : (T : Train) → (try_new_of T.terms T.made).refused ≡ None → (store : List ℕ) → Known T (start (try_new_of T.terms T.made).receiver store)
 known T e store =
     let w₀ = start (try_new_of T.terms T.made).receiver store in
     record {
@@ -221,7 +220,7 @@ known T e store =
     }
 
 -- for every train, plan_message's or another
-pub train_exactly : (T : Train) → (try_new_of T.terms T.made).refused ≡ none → (store : List ℕ) → store_octets ≤ length store → (cs : List Call) (c : Call)
+pub train_exactly : (T : Train) → (try_new_of T.terms T.made).refused ≡ None → (store : List ℕ) → store_octets ≤ length store → (cs : List Call) (c : Call)
     → DeliveryConditions T.interval T.terms T.made T.count T.segment [] (cs ++ (c ∷ []))
     → HandsOverExactly T.count T.segment T.message cs c (step_after (step_of T.interval) (after (step_of T.interval) (start (try_new_of T.terms T.made).receiver store) cs) c)
 train_exactly T e store room cs c D =
@@ -232,7 +231,7 @@ train_exactly T e store room cs c D =
     (subst (λ (v : Left). Delivered T v (latest_first [] (cs ++ (c ∷ [])))) (after_append (step_of T.interval) w₀ cs (c ∷ [])) (train_delivered T w₀ (known T e store) k (cs ++ (c ∷ [])) D))
 
 -- of every train that is given
-given_exactly : (interval : ℕ) (t : Terms) (made : ℕ) → (try_new_of t made).refused ≡ none → (store message : List ℕ) (count : ℕ) (segment : ℕ → WholeSegment)
+given_exactly : (interval : ℕ) (t : Terms) (made : ℕ) → (try_new_of t made).refused ≡ None → (store message : List ℕ) (count : ℕ) (segment : ℕ → WholeSegment)
     → TrainFor t.transaction_id t.version message count segment → length message ≤ t.maximum_message_octets → store_octets ≤ length store → (cs : List Call) (c : Call)
     → DeliveryConditions interval t made count segment [] (cs ++ (c ∷ []))
     → HandsOverExactly count segment message cs c (step_after (step_of interval) (after (step_of interval) (start (try_new_of t made).receiver store) cs) c)

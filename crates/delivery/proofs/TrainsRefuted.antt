@@ -1,8 +1,7 @@
 -- The second half (2026-02) does not hold of a receiver that takes Continues of one length alone, as plan_message's are, nor of one that also takes
 -- those one octet shorter, as the even planner's are. Of the two trains that show it one is the even planner's, the other the frozen check's; ours
 -- hands the message over with each.
-use Rattle.std.specs.Prelude.{ℕ, ◌≡◌, refl, List, [], ◌∷◌, true, replicate}
-use Rattle.std.proofs.Math.Option.{none}
+use Rattle.std.specs.Prelude.{ℕ, ◌≡◌, refl, List, [], ◌∷◌, true, replicate, None}
 use Rattle.std.proofs.Common.{lit≤}
 use Rattle.octets.specs.Octets.{wiped_to, same_octets}
 use Rattle.words.specs.Marks.{marked, sum_below, words_of, all_below, highest_of}
@@ -10,9 +9,6 @@ use Rattle.link.specs.Profile.{known_profile, receiver_interval}
 use Rattle.tsar.specs.Layout.{WholeSegment}
 use Rattle.tsar.specs.Writing.{header_octets}
 use Rattle.tsar.specs.declared.AcknowledgmentWindow.TheVariants as window
-use Rattle.tsar.specs.declared.MessageLength.TheVariants as len
-use Rattle.tsar.specs.declared.Services.TheVariants as optional
-use Rattle.tsar.specs.declared.MessageCrc.TheVariants as crc
 use Rattle.tsar.specs.declared.SegmentKind.{SegmentKind}
 use Rattle.tsar.specs.declared.SegmentKind.TheVariants as kind'
 use Rattle.tsar.specs.declared.SegmentHead.{SegmentHead}
@@ -64,16 +60,16 @@ head_with i k n = record { segment = record { transaction_id = 0; sequence_numbe
 
 abbrev heads : List SegmentHead
 heads =
-    head_with 0 (kind'.Begin len.Unstated optional.Absent) 0
-    ∷ head_with 1 (kind'.Continue len.Unstated) 5
-    ∷ head_with 2 (kind'.Continue len.Unstated) 1
-    ∷ head_with 3 (kind'.End len.Unstated crc.Absent) 2
+    head_with 0 (kind'.Begin None None) 0
+    ∷ head_with 1 (kind'.Continue None) 5
+    ∷ head_with 2 (kind'.Continue None) 1
+    ∷ head_with 3 (kind'.End None None) 2
     ∷ []
 
 abbrev proposal : Proposal
 proposal = record { heads = heads; count = 4; joined = eight; message = eight; budget = 20; version = 1; ceiling = 20 }
 
-accepted : frozen_refusal proposal ≡ none
+accepted : frozen_refusal proposal ≡ None
 unfolding frozen_refusal segments_from data_before same_octets header_octets
 accepted = refl
 
@@ -88,11 +84,11 @@ output = replicate 10 165
 abbrev end_step : StepFunction → (ℕ → WholeSegment) → Step
 end_step step segment = step_after step (after step (start (try_new_of terms₀ 0).receiver store₀) (bringing_to terms₀ 0 segment output 3)) (bringing terms₀ 0 segment output 3)
 
-one_length_none : carried (end_step one_length (train_of even_plan eight)).answer ≡ none
+one_length_none : carried (end_step one_length (train_of even_plan eight)).answer ≡ None
 unfolding known_profile receiver_interval try_new_of receive_of impossible all_below sum_to empty_slots empty_lengths joined same_octets wiped_to marked words_of sum_below highest_of longer segment_at bringing_to
 one_length_none = refl
 
-shorter_none : carried (end_step at_most_one_shorter (frozen_train_of (frozen_of proposal) eight)).answer ≡ none
+shorter_none : carried (end_step at_most_one_shorter (frozen_train_of (frozen_of proposal) eight)).answer ≡ None
 unfolding known_profile receiver_interval try_new_of receive_of impossible all_below sum_to empty_slots empty_lengths joined same_octets wiped_to marked words_of sum_below highest_of frozen_segment_at kept_heads data_before bringing_to
 shorter_none = refl
 
@@ -108,7 +104,7 @@ frozen_handed = (refl, refl)
 -- ---- refuted
 
 -- a receiver that hands nothing over with the End of such a train
-refuted : (step : StepFunction) (segment : ℕ → WholeSegment) → TrainFor 0 1 eight 4 segment → carried (end_step step segment).answer ≡ none → SecondHalf own_interval try_new_of step → ⊥
+refuted : (step : StepFunction) (segment : ℕ → WholeSegment) → TrainFor 0 1 eight 4 segment → carried (end_step step segment).answer ≡ None → SecondHalf own_interval try_new_of step → ⊥
 unfolding receiver_interval
 refuted step segment T e p =
     let h = in_order (own_interval terms₀) (lit≤ tt) try_new_of step terms₀ (p terms₀) 0 new_made (lit≤ tt) store₀ eight 4 segment T (lit≤ tt) room output (lit≤ tt) in

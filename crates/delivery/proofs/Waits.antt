@@ -5,7 +5,7 @@ use mathlib.Core.Path.{◌≡◌, refl, sym, ap, subst, ◌∙◌}
 use mathlib.Core.Logic.{inl, inr}
 use mathlib.Core.List.{List, [], ◌∷◌}
 use mathlib.Core.Bool.{Bool, true, false, cond, not, false≢true}
-use mathlib.Core.Option.{Option, none, some}
+use Rattle.std.specs.Prelude.{Option, Some, None}
 use native.Mathlib.Omega.{arith}
 use lib.ListN.{length}
 use lib.Dec.{eqb, leb}
@@ -18,8 +18,6 @@ use Rattle.tsar.specs.Rows.{Refusal, first_of, refusal, test, refusal_none, refu
 use Rattle.tsar.specs.Kinds.{prohibited}
 use Rattle.tsar.specs.declared.AcknowledgmentWindow.TheVariants as window
 use Rattle.segmentation.specs.Plan.{longer}
-use Rattle.receiver.specs.declared.Deadline.{Deadline}
-use Rattle.receiver.specs.declared.Deadline.TheVariants as deadline
 use Rattle.receiver.specs.declared.ReceiverState.{ReceiverState}
 use Rattle.receiver.specs.declared.ReceiverState.TheVariants.{AwaitingBegin, Receiving, Complete, Failed, Expired, Canceled}
 use Rattle.receiver.specs.declared.Terms.{Terms}
@@ -45,14 +43,14 @@ module _ (interval : ℕ) (r : Receiver) (c : Call) (st : Step) where
   same f e = record { sets = λ t. never _ f t; moves_none = λ g. inl e; goes_on = λ g h k. e }
 
   -- off, with the reception over
-  over : sets_deadline c st ≡ false → receiving st.receiver.progress.state ≡ false → deadline_of st.receiver ≡ deadline.Off → Sets interval r c st
+  over : sets_deadline c st ≡ false → receiving st.receiver.progress.state ≡ false → deadline_of st.receiver ≡ None → Sets interval r c st
   over f k e = record { sets = λ t. never _ f t; moves_none = λ g. inr e; goes_on = λ g h m. never _ k m }
 
   -- off, by an advance that fires
-  fired : sets_deadline c st ≡ false → fires_at c r ≡ true → deadline_of st.receiver ≡ deadline.Off → Sets interval r c st
+  fired : sets_deadline c st ≡ false → fires_at c r ≡ true → deadline_of st.receiver ≡ None → Sets interval r c st
   fired f k e = record { sets = λ t. never _ f t; moves_none = λ g. inr e; goes_on = λ g h m. never _ h k }
 
-  on : sets_deadline c st ≡ true → deadline_of st.receiver ≡ deadline.At (reading c + interval) → Sets interval r c st
+  on : sets_deadline c st ≡ true → deadline_of st.receiver ≡ Some (reading c + interval) → Sets interval r c st
   on t e = record { sets = λ g. e; moves_none = λ f. never _ f t; goes_on = λ f h m. never _ f t }
 
 module _ (interval : ℕ) (r : Receiver) (store : List ℕ) where
@@ -79,18 +77,18 @@ module _ (interval : ℕ) (r : Receiver) (store : List ℕ) where
 
 -- ---- what it does
 
-module _ (r : Receiver) (store : List ℕ) (now' d : ℕ) (e : deadline_of r ≡ deadline.At d) where
+module _ (r : Receiver) (store : List ℕ) (now' d : ℕ) (e : deadline_of r ≡ Some d) where
   fires_at_lem : store_octets ≤ length store → impossible r ≡ false → r.progress.last_monotonic_ms ≤ now' → Fires r store now' d (advance_of r store now')
   fires_at_lem room ok l = by_advance (Fires r store now' d) r store now' (λ n q. absurd (passes n q)) (λ K b p q f. by b p (sym q) f)
     where
-      passes : (n : Refusal) → refusal (clock_rows r store now') ≡ some n → ⊥
+      passes : (n : Refusal) → refusal (clock_rows r store now') ≡ Some n → ⊥
       passes n q =
           let z = sym (refusal_pass (clock_rows r store now') (le-ltb (length store) store_octets room, (ok, (le-ltb now' r.progress.last_monotonic_ms l, tt)))) ∙ q in
           let y : ◌≡◌ {A = ℕ} 0 1 = cc in
           omega arith
 
       is : due (deadline_of r) now' ≡ leb d now'
-      is = ap (λ (x : Deadline). due x now') e
+      is = ap (λ (x : Option ℕ). due x now') e
 
       by : (b p : Bool) → b ≡ due (deadline_of r) now' → prohibited r.progress.services.acknowledgment_window ≡ p → Fires r store now' d (fires b p r store now')
       by false p q f = record { waits = λ h. refl; expires = λ h. never _ (sym (q ∙ is)) (le-leb d now' h); asks = λ h. never _ (sym (q ∙ is)) (le-leb d now' h) }
@@ -102,11 +100,11 @@ abbrev Only : (ℕ → Bool) → List (Bool × Refusal) → Type 0
 Only ok [] = Unit {0}
 Only ok (c ∷ cs) = (c.0 ≡ true → ok c.1.0 ≡ true) × Only ok cs
 
-refused_only : (ok : ℕ → Bool) (cs : List (Bool × Refusal)) → Only ok cs → (n : Refusal) → refusal cs ≡ some n → ok n.0 ≡ true
+refused_only : (ok : ℕ → Bool) (cs : List (Bool × Refusal)) → Only ok cs → (n : Refusal) → refusal cs ≡ Some n → ok n.0 ≡ true
 refused_only ok [] h n e = let z : ◌≡◌ {A = ℕ} 0 1 = cc in absurd (omega arith)
 refused_only ok (c ∷ cs) h n e = go c.0 refl (refused_only ok cs h.1 n) e
   where
-    go : (b : Bool) → c.0 ≡ b → (refusal cs ≡ some n → ok n.0 ≡ true) → cond b (some c.1) (refusal cs) ≡ some n → ok n.0 ≡ true
+    go : (b : Bool) → c.0 ≡ b → (refusal cs ≡ Some n → ok n.0 ≡ true) → cond b (Some c.1) (refusal cs) ≡ Some n → ok n.0 ≡ true
     go true q ih f = let z : c.1 ≡ n = cc in ap (λ (x : Refusal). ok x.0) (sym z) ∙ h.0 q
     go false q ih f = ih f
 
@@ -145,7 +143,7 @@ module _ (interval : ℕ) (r : Receiver) (store : List ℕ) (a : Arrival) (out :
   -- the tests before the slots, but for one number
   rows_other : (m : ℕ) → (test rows 14 ≡ true → other m 38 ≡ true) → (test rows 16 ≡ true → other m 34 ≡ true)
       → other m 60 ≡ true → other m 61 ≡ true → other m 62 ≡ true → other m 33 ≡ true → other m 30 ≡ true → other m 31 ≡ true → other m 32 ≡ true → other m 1 ≡ true → other m 6 ≡ true → other m 35 ≡ true → other m 36 ≡ true
-      → (n : Refusal) → refusal rows ≡ some n → other m n.0 ≡ true
+      → (n : Refusal) → refusal rows ≡ Some n → other m n.0 ≡ true
   rows_other m t38 t34 h60 h61 h62 h33 h30 h31 h32 h1 h6 h35 h36 =
       refused_only (other m) rows
       ((λ t. h60), ((λ t. h61), ((λ t. h62), ((λ t. h33), ((λ t. h30), ((λ t. h31), ((λ t. h32), ((λ t. h1), ((λ t. h6), ((λ t. h6), ((λ t. h6), ((λ t. h6), ((λ t. h6), ((λ t. h35), (t38, ((λ t. h36), (t34, tt)))))))))))))))))
@@ -162,15 +160,15 @@ module _ (interval : ℕ) (r : Receiver) (store : List ℕ) (a : Arrival) (out :
   too_far_is l = go (refusal rows) refl
     where
       go : (v : Option Refusal) → refusal rows ≡ v → is_refused (receive_after interval v r a store out).answer ≡ true
-      go (some n) e = refl
-      go none e = never _ (refusal_none rows e 16) (lt-ltb (2 ^ 64 - 1 - interval) a.reading l)
+      go (Some n) e = refl
+      go None e = never _ (refusal_none rows e 16) (lt-ltb (2 ^ 64 - 1 - interval) a.reading l)
 
-  module _ (d : ℕ) (at : deadline_of r ≡ deadline.At d) (l : a.reading ≤ d) where
+  module _ (d : ℕ) (at : deadline_of r ≡ Some d) (l : a.reading ≤ d) where
     is_not : late (deadline_of r) a.reading ≡ false
-    is_not = ap (λ (x : Deadline). late x a.reading) at ∙ le-ltb d a.reading l
+    is_not = ap (λ (x : Option ℕ). late x a.reading) at ∙ le-ltb d a.reading l
 
     -- what holds of the refusals by the tests and of what the slots decide
-    by_in_time : (P : Step → Type 0) → ((n : Refusal) → refusal rows ≡ some n → P (refuses n r store out)) → P (settle interval (first_of (slot_rules r a store) keeps) r a store out) → P (receive_of interval r a store out)
+    by_in_time : (P : Step → Type 0) → ((n : Refusal) → refusal rows ≡ Some n → P (refuses n r store out)) → P (settle interval (first_of (slot_rules r a store) keeps) r a store out) → P (receive_of interval r a store out)
     unfolding receive_of
     by_in_time P f g = go (refusal rows) refl
       where
@@ -179,8 +177,8 @@ module _ (interval : ℕ) (r : Receiver) (store : List ℕ) (a : Arrival) (out :
         goes false p e = g
 
         go : (v : Option Refusal) → refusal rows ≡ v → P (receive_after interval v r a store out)
-        go (some n) e = f n e
-        go none e = goes (late (deadline_of r) a.reading) (prohibited r.progress.services.acknowledgment_window) is_not
+        go (Some n) e = f n e
+        go None e = goes (late (deadline_of r) a.reading) (prohibited r.progress.services.acknowledgment_window) is_not
 
     not_37 : Other 37 (receive_of interval r a store out)
     not_37 = by_in_time (Other 37) (rows_other 37 (λ t. refl) (λ t. refl) refl refl refl refl refl refl refl refl refl refl refl) (settled_number 37 refl refl (first_of (slot_rules r a store) keeps))
@@ -204,12 +202,12 @@ module _ (interval : ℕ) (r : Receiver) (store : List ℕ) (a : Arrival) (out :
         unfinished Expired e = refl
         unfinished Canceled e = refl
 
-late_is : (interval : ℕ) (r : Receiver) (store : List ℕ) (a : Arrival) (out : List ℕ) (d : ℕ) → deadline_of r ≡ deadline.At d → d < a.reading → is_refused (receive_of interval r a store out).answer ≡ true
+late_is : (interval : ℕ) (r : Receiver) (store : List ℕ) (a : Arrival) (out : List ℕ) (d : ℕ) → deadline_of r ≡ Some d → d < a.reading → is_refused (receive_of interval r a store out).answer ≡ true
 unfolding receive_of
 late_is interval r store a out d e l = go (refusal (receive_rows interval r a store out))
   where
     is : late (deadline_of r) a.reading ≡ true
-    is = ap (λ (x : Deadline). late x a.reading) e ∙ lt-ltb d a.reading l
+    is = ap (λ (x : Option ℕ). late x a.reading) e ∙ lt-ltb d a.reading l
 
     past : (b p : Bool) → b ≡ true → is_refused (late_or interval b p r a store out).answer ≡ true
     past true true q = refl
@@ -217,8 +215,8 @@ late_is interval r store a out d e l = go (refusal (receive_rows interval r a st
     past false p q = absurd (false≢true q)
 
     go : (v : Option Refusal) → is_refused (receive_after interval v r a store out).answer ≡ true
-    go (some n) = refl
-    go none = past (late (deadline_of r) a.reading) (prohibited r.progress.services.acknowledgment_window) is
+    go (Some n) = refl
+    go None = past (late (deadline_of r) a.reading) (prohibited r.progress.services.acknowledgment_window) is
 
 -- ---- the law
 
@@ -257,8 +255,8 @@ begun_4 profile = after ours (start (try_new_of (terms_of profile) 0).receiver s
 -- the deadline, and after the Begin has come again at 7 ms; before the deadline the receiver waits, at it it expires; a segment at the deadline is taken,
 -- and past it is refused with 38, under Every4 with 37
 pub record InNumbers (profile d : ℕ) : Type 0 where
-  pub set : deadline_of (begun profile).receiver ≡ deadline.At d
-  pub moved : deadline_of (step_after ours (begun profile) (bring window.Prohibited true 0 7)).receiver ≡ deadline.At (d + 2)
+  pub set : deadline_of (begun profile).receiver ≡ Some d
+  pub moved : deadline_of (step_after ours (begun profile) (bring window.Prohibited true 0 7)).receiver ≡ Some (d + 2)
   pub waiting : (step_after ours (begun profile) (advance (d - 1))).receiver.progress.state ≡ Receiving
   pub expired : (step_after ours (begun profile) (advance d)).receiver.progress.state ≡ Expired
   pub taken : is_refused (step_after ours (begun profile) (bring window.Prohibited true 2 d)).answer ≡ false
@@ -286,7 +284,7 @@ longer_sets : sets_deadline (bring window.Prohibited true 0 5) (waits_longer new
 unfolding known_profile receiver_interval try_new_of receive_of advance_of impossible all_below sum_to empty_slots empty_lengths joined same_octets wiped_to marked words_of sum_below highest_of longer
 longer_sets = refl
 
-longer_deadline : deadline_of (waits_longer new_2 store₀ (bring window.Prohibited true 0 5)).receiver ≡ deadline.At 300005
+longer_deadline : deadline_of (waits_longer new_2 store₀ (bring window.Prohibited true 0 5)).receiver ≡ Some 300005
 unfolding known_profile receiver_interval try_new_of receive_of advance_of impossible all_below sum_to empty_slots empty_lengths joined same_octets wiped_to marked words_of sum_below highest_of longer
 longer_deadline = refl
 
@@ -296,7 +294,7 @@ own_2 = refl
 
 pub waits_longer_refuted : Waits interval_of waits_longer → ⊥
 waits_longer_refuted w =
-    let e : deadline.At 300005 ≡ deadline.At (5 + interval_of new_2) = sym longer_deadline ∙ (w.deadline_set new_2 store₀ (bring window.Prohibited true 0 5)).sets longer_sets in
+    let e : Some 300005 ≡ Some (5 + interval_of new_2) = sym longer_deadline ∙ (w.deadline_set new_2 store₀ (bring window.Prohibited true 0 5)).sets longer_sets in
     let z : 300005 ≡ 5 + interval_of new_2 = cc in
     omega (arith, own_2)
 

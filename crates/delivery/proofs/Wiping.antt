@@ -1,12 +1,11 @@
 -- The receiver wipes its store on the four occasions and on no other, whatever its record is; no call changes the store of a closed receiver, so the
 -- store of one that was made and is closed is wiped. Every call ends in one of two ways: it goes on, or it is closed on an occasion. Assumes nothing.
-use Rattle.std.specs.Prelude.{ℕ, ◌≡◌, ◌⊎◌, List, [], ◌∷◌, Bool, false, cond, not, ◌&&◌, ◌||◌, get_or, eqb, ltb}
+use Rattle.std.specs.Prelude.{ℕ, ◌≡◌, ◌⊎◌, List, [], ◌∷◌, Bool, false, cond, not, ◌&&◌, ◌||◌, get_or, eqb, ltb, Option, Some, None}
 use Rattle.std.proofs.Math.Path.{refl, sym}
 use Rattle.std.proofs.Common.{ap, ◌∙◌, subst, ⊎_elim, ltb-true, ltb-false}
 use Rattle.std.proofs.Math.Logic.{inl, inr}
 use Rattle.std.proofs.Math.Bool.{true}
 use Rattle.std.proofs.lemmas.Bool.{false≢true, not-false}
-use Rattle.std.proofs.Math.Option.{Option, none, some}
 use Rattle.words.specs.Marks.{marked, words_of}
 use Rattle.words.specs.Laws.{marked_none, marked_past, marked_words_of}
 use Rattle.words.specs.declared.Words.{Words}
@@ -45,7 +44,7 @@ record Shut (r : Receiver) (c : Call) (st : Step) : Type 0 where
   pub same_terms : found.terms ≡ r.terms
   pub own : has_failed state ≡ false → found ≡ r
   pub closed_is : st.receiver ≡ closed found state (reading c)
-  pub no_message : carried st.answer ≡ none
+  pub no_message : carried st.answer ≡ None
 
 -- or it goes on: it takes segments as before, holds what was held, and was not asked to close, or was refused
 record Goes (r : Receiver) (c : Call) (st : Step) : Type 0 where
@@ -64,13 +63,13 @@ stage_terms r a noted = refl
 stage_terms r a keeping = refl
 
 -- tests that hold give an occasion
-one_of : (b : Bool) (o : Occasion) (z : Option Occasion) → b ≡ true → is_one (cond (b && true) (some o) z) ≡ true
+one_of : (b : Bool) (o : Occasion) (z : Option Occasion) → b ≡ true → is_one (cond (b && true) (Some o) z) ≡ true
 one_of b o z e = rw e
 
-one_expiry : (b c : Bool) → b ≡ true → c ≡ true → is_one (cond (b && c && true) (some expiry) none) ≡ true
+one_expiry : (b c : Bool) → b ≡ true → c ≡ true → is_one (cond (b && c && true) (Some expiry) None) ≡ true
 one_expiry b c e f = rw (e, f)
 
-one_late : (t b c : Bool) → b ≡ true → c ≡ true → is_one (cond (t && false) (some failure) (cond (b && c && true) (some expiry) none)) ≡ true
+one_late : (t b c : Bool) → b ≡ true → c ≡ true → is_one (cond (t && false) (Some failure) (cond (b && c && true) (Some expiry) None)) ≡ true
 one_late true b c e f = one_expiry b c e f
 one_late false b c e f = one_expiry b c e f
 
@@ -85,12 +84,12 @@ held_more w q s e = go (ltb s 256) refl
 module _ (interval : ℕ) (r : Receiver) (store : List ℕ) where
   -- the receiver's own record, closed
   own_shut : (c : Call) (s : ReceiverState) (st : Step) → taking r.progress.state ≡ true → taking s ≡ false → is_one (occasion c r s) ≡ true
-      → st.receiver ≡ closed r s (reading c) → carried st.answer ≡ none → Shut r c st
+      → st.receiver ≡ closed r s (reading c) → carried st.answer ≡ None → Shut r c st
   own_shut c s st o f i e m =
       record { taking_before = o; state = s; takes_none = f; is_one_lem = i; found = r; same_terms = refl; own = λ g. refl; closed_is = e; no_message = m }
 
   failed_shut : (a : Arrival) (o : List ℕ) (k : Stage) (s : Status) (st : Step) → taking r.progress.state ≡ true
-      → st.receiver ≡ closed (at_stage r a k) (Failed s) a.reading → carried st.answer ≡ none → Shut r (receive a o) st
+      → st.receiver ≡ closed (at_stage r a k) (Failed s) a.reading → carried st.answer ≡ None → Shut r (receive a o) st
   failed_shut a o k s st t e m =
       record {
         taking_before = t;
@@ -123,7 +122,7 @@ module _ (interval : ℕ) (r : Receiver) (store : List ℕ) where
           (λ N right e. inl (record { same_taking = sym t; held_on = λ s q. held_more r.held (sequence a) s q; not_asked = not_asked_receive a o _ }))
           (λ N e. inl (record { same_taking = sym t; held_on = λ s q. held_more r.held (sequence a) s q; not_asked = not_asked_receive a o _ }))
 
-      in_time : refusal (receive_rows interval r a store o) ≡ none → (b p : Bool) → late r.progress.deadline_monotonic_ms a.reading ≡ b → Way r (receive a o) (late_or interval b p r a store o)
+      in_time : refusal (receive_rows interval r a store o) ≡ None → (b p : Bool) → late r.progress.deadline_monotonic_ms a.reading ≡ b → Way r (receive a o) (late_or interval b p r a store o)
       in_time e true true l =
           let f = refusal_none (receive_rows interval r a store o) e in
           let g : receiving r.progress.state ≡ true = due_receiving r a.reading (f 2) (late_due r.progress.deadline_monotonic_ms a.reading l) in
@@ -132,8 +131,8 @@ module _ (interval : ℕ) (r : Receiver) (store : List ℕ) where
       in_time e false p l = settled (not-false (taking r.progress.state) (refusal_none (receive_rows interval r a store o) e 14))
 
       go : (v : Option Refusal) → refusal (receive_rows interval r a store o) ≡ v → Way r (receive a o) (receive_after interval v r a store o)
-      go (some n) e = stays (receive a o) (receive_after interval (some n) r a store o) refl refl (not_asked_receive a o true)
-      go none e = in_time e (late r.progress.deadline_monotonic_ms a.reading) (prohibited r.progress.services.acknowledgment_window) refl
+      go (Some n) e = stays (receive a o) (receive_after interval (Some n) r a store o) refl refl (not_asked_receive a o true)
+      go None e = in_time e (late r.progress.deadline_monotonic_ms a.reading) (prohibited r.progress.services.acknowledgment_window) refl
 
   way : (c : Call) → Way r c (step_of interval r store c)
   way (receive a o) = receive_way a o
@@ -147,10 +146,10 @@ module _ (interval : ℕ) (r : Receiver) (store : List ℕ) where
       fired K true false d = stays (advance n) (fires true false r store n) refl refl (λ q. absurd (false≢true q))
   way (cancel n) =
       by_cancel (Way r (cancel n)) r store n (λ k e. stays (cancel n) _ refl refl (λ q. refl))
-      (λ K s. inr (own_shut (cancel n) Canceled _ (cancel_open r.progress.state s) refl (one_of (awaiting r.progress.state || receiving r.progress.state) cancelling none s) refl refl))
+      (λ K s. inr (own_shut (cancel n) Canceled _ (cancel_open r.progress.state s) refl (one_of (awaiting r.progress.state || receiving r.progress.state) cancelling None s) refl refl))
   way (release n) =
       by_release (Way r (release n)) r store n (λ k e. stays (release n) _ refl refl (λ q. refl))
-      (λ K s. inr (own_shut (release n) Canceled _ (release_open r.progress.state s) refl (one_of (complete r.progress.state) releasing none s) refl refl))
+      (λ K s. inr (own_shut (release n) Canceled _ (release_open r.progress.state s) refl (one_of (complete r.progress.state) releasing None s) refl refl))
 
 -- ---- what follows of each
 
@@ -164,33 +163,33 @@ open_left Expired e = absurd (false≢true e)
 open_left Canceled e = absurd (false≢true e)
 
 -- one that does not hold gives none
-none_left : (b c : Bool) (o : Occasion) (z : Option Occasion) → c ≡ false → is_one z ≡ false → is_one (cond (b && c) (some o) z) ≡ false
+none_left : (b c : Bool) (o : Occasion) (z : Option Occasion) → c ≡ false → is_one z ≡ false → is_one (cond (b && c) (Some o) z) ≡ false
 none_left true c o z e f = rw e f
 none_left false c o z e f = f
 
-none_found : (b c : Bool) (o : Occasion) (z : Option Occasion) → b ≡ false → is_one z ≡ false → is_one (cond (b && c) (some o) z) ≡ false
+none_found : (b c : Bool) (o : Occasion) (z : Option Occasion) → b ≡ false → is_one z ≡ false → is_one (cond (b && c) (Some o) z) ≡ false
 none_found b c o z e f = rw e f
 
 -- leaving a state that takes segments, a call has no occasion
 open_none : (c : Call) (r : Receiver) (s : ReceiverState) → taking s ≡ true → is_one (occasion c r s) ≡ false
 open_none (receive a o) r s e =
     none_left (taking r.progress.state) (has_failed s) failure _ (open_left s e).0
-    (none_left (receiving r.progress.state && late r.progress.deadline_monotonic_ms a.reading) (has_expired s) expiry none (open_left s e).1 refl)
+    (none_left (receiving r.progress.state && late r.progress.deadline_monotonic_ms a.reading) (has_expired s) expiry None (open_left s e).1 refl)
 open_none (advance n) r s e =
-    none_left (receiving r.progress.state && due r.progress.deadline_monotonic_ms n) (has_expired s) expiry none (open_left s e).1 refl
-open_none (cancel n) r s e = none_left (awaiting r.progress.state || receiving r.progress.state) (is_canceled s) cancelling none (open_left s e).2 refl
-open_none (release n) r s e = none_left (complete r.progress.state) (is_canceled s) releasing none (open_left s e).2 refl
+    none_left (receiving r.progress.state && due r.progress.deadline_monotonic_ms n) (has_expired s) expiry None (open_left s e).1 refl
+open_none (cancel n) r s e = none_left (awaiting r.progress.state || receiving r.progress.state) (is_canceled s) cancelling None (open_left s e).2 refl
+open_none (release n) r s e = none_left (complete r.progress.state) (is_canceled s) releasing None (open_left s e).2 refl
 
 -- nor has one at a state that takes none
 shut_none : (c : Call) (r : Receiver) (s : ReceiverState) → taking r.progress.state ≡ false → is_one (occasion c r s) ≡ false
 shut_none (receive a o) r s e =
     let f = (shut r.progress.state e).1 in
     none_found (taking r.progress.state) (has_failed s) failure _ e
-    (none_found (receiving r.progress.state && late r.progress.deadline_monotonic_ms a.reading) (has_expired s) expiry none (rw f) refl)
-shut_none (advance n) r s e = none_found (receiving r.progress.state && due r.progress.deadline_monotonic_ms n) (has_expired s) expiry none (rw (shut r.progress.state e).1) refl
+    (none_found (receiving r.progress.state && late r.progress.deadline_monotonic_ms a.reading) (has_expired s) expiry None (rw f) refl)
+shut_none (advance n) r s e = none_found (receiving r.progress.state && due r.progress.deadline_monotonic_ms n) (has_expired s) expiry None (rw (shut r.progress.state e).1) refl
 shut_none (cancel n) r s e =
-    none_found (awaiting r.progress.state || receiving r.progress.state) (is_canceled s) cancelling none (rw ((shut r.progress.state e).0, (shut r.progress.state e).1)) refl
-shut_none (release n) r s e = none_found (complete r.progress.state) (is_canceled s) releasing none (shut r.progress.state e).2 refl
+    none_found (awaiting r.progress.state || receiving r.progress.state) (is_canceled s) cancelling None (rw ((shut r.progress.state e).0, (shut r.progress.state e).1)) refl
+shut_none (release n) r s e = none_found (complete r.progress.state) (is_canceled s) releasing None (shut r.progress.state e).2 refl
 
 module _ (r : Receiver) (c : Call) (st : Step) where
   abbrev s : ReceiverState
@@ -220,7 +219,7 @@ module _ (r : Receiver) (c : Call) (st : Step) where
   acts_way (inl z) q f = never _ f (z.not_asked q)
   acts_way (inr z) q f = shut_closes z
 
-  none_way : Way r c st → closes r st ≡ true → carried st.answer ≡ none
+  none_way : Way r c st → closes r st ≡ true → carried st.answer ≡ None
   none_way (inl z) g = never _ (as_before z.same_taking) g
   none_way (inr z) g = z.no_message
 
@@ -314,11 +313,11 @@ clean_after : (interval : ℕ) (w : Left) (cs : List Call) → Clean w → Clean
 clean_after interval w [] k = k
 clean_after interval w (c ∷ cs) k = clean_after interval (then (step_of interval) w c) cs (clean_then interval w c k)
 
-pub closed_store : (interval : ℕ) (t : Terms) (made : ℕ) → (try_new_of t made).refused ≡ none → (store : List ℕ) (cs : List Call) → Clean (after (step_of interval) (start (try_new_of t made).receiver store) cs)
+pub closed_store : (interval : ℕ) (t : Terms) (made : ℕ) → (try_new_of t made).refused ≡ None → (store : List ℕ) (cs : List Call) → Clean (after (step_of interval) (start (try_new_of t made).receiver store) cs)
 closed_store interval t made e store cs =
     clean_after interval (start (try_new_of t made).receiver store) cs (λ f. never _ f (ap (λ (r : Receiver). taking r.progress.state) (made_is t made e)))
 
 -- so of ours
-pub own_closed_store : (t : Terms) (made : ℕ) → (try_new_of t made).refused ≡ none → (store : List ℕ) (cs : List Call) → Clean (after ours (start (try_new_of t made).receiver store) cs)
+pub own_closed_store : (t : Terms) (made : ℕ) → (try_new_of t made).refused ≡ None → (store : List ℕ) (cs : List Call) → Clean (after ours (start (try_new_of t made).receiver store) cs)
 own_closed_store t made e store cs =
     subst Clean (sym (one_interval (own_interval t) (start (try_new_of t made).receiver store) cs (made_interval t made e))) (closed_store (own_interval t) t made e store cs)

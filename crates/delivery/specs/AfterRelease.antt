@@ -1,6 +1,5 @@
 -- The definitions that the laws of proofs/AfterRelease speak of.
-use Rattle.std.specs.Prelude.{ℕ, ◌≤◌, ◌<◌, min, ◌≡◌, List, true, false, cond, length, get_or}
-use Rattle.std.proofs.Math.Option.{none}
+use Rattle.std.specs.Prelude.{ℕ, ◌≤◌, ◌<◌, min, ◌≡◌, List, true, false, cond, length, get_or, None}
 use Rattle.link.specs.Peer.{same_identity, same_protocol}
 use Rattle.tsar.specs.Writing.{codec_rows}
 use Rattle.tsar.specs.Rows.{Refusal, refusal}
@@ -24,7 +23,7 @@ pub record Before38 (r : Receiver) (a : Arrival) (store out : List ℕ) : Type 0
   pub same_peer : same_identity a.peer r.terms.peer ≡ true
   pub same_protocol_lem : same_protocol a.protocol r.terms.protocol ≡ true
   pub same_transaction : a.segment.transaction_id ≡ r.terms.transaction_id
-  pub codec : refusal (codec_rows r.terms.version a.segment (length a.octets)) ≡ none
+  pub codec : refusal (codec_rows r.terms.version a.segment (length a.octets)) ≡ None
   pub parsed : a.unparsed ≡ 0
 
 -- a receive that is refused and changes nothing, with 38 where the tests before it pass

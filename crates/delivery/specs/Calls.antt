@@ -1,10 +1,8 @@
 -- A list of calls on one receiver and one store: what it leaves, what was accepted in it and what was handed over, and the first half of demand 3.
-use Rattle.std.specs.Prelude.{ℕ, zero, suc, ◌+◌, ◌≤◌, ◌<◌, ◌≡◌, List, [], ◌∷◌, ◌++◌, Bool, true, false, cond, not, ◌&&◌, length, take, eqb}
-use Rattle.std.proofs.Math.Option.{Option, none, some}
+use Rattle.std.specs.Prelude.{ℕ, zero, suc, ◌+◌, ◌≤◌, ◌<◌, ◌≡◌, List, [], ◌∷◌, ◌++◌, Bool, true, false, cond, not, ◌&&◌, length, take, eqb, Option, Some, None}
 use Rattle.tsar.specs.Layout.{WholeSegment, whole}
 use Rattle.tsar.specs.Kinds.{is_end}
 use Rattle.tsar.specs.Writing.{length_in}
-use Rattle.tsar.specs.declared.MessageLength.TheVariants.{Stated}
 use Rattle.receiver.specs.Record.{interval_of, is_held, kind_at, length_at, part, receiving_or_complete}
 use Rattle.receiver.specs.Answers.{Answer, refused, answered, Step}
 use Rattle.receiver.specs.Receive.{Arrival, sequence, receive_of}
@@ -57,12 +55,12 @@ brought a = whole a.segment a.octets
 
 -- the segment with sequence number s
 abbrev pub find : ℕ → List WholeSegment → Option WholeSegment
-find s [] = none
-find s (x ∷ xs) = cond (eqb x.sequence_number s) (some x) (find s xs)
+find s [] = None
+find s (x ∷ xs) = cond (eqb x.sequence_number s) (Some x) (find s xs)
 
 abbrev pub absent : Option WholeSegment → Bool
-absent none = true
-absent (some x) = false
+absent None = true
+absent (Some x) = false
 
 abbrev pub is_refused : Answer → Bool
 is_refused (refused n) = true
@@ -93,13 +91,13 @@ pub record HandOver : Type 0 where
 
 -- the number of octets of the message that an answer carries
 abbrev pub carried : Answer → Option ℕ
-carried (refused n) = none
+carried (refused n) = None
 carried (answered r m) = m
 
 -- hands over (document 01): a call whose answer carries a message, the first octets of output, as many as the answer counts
 abbrev pub add_handed : Option ℕ → List ℕ → List WholeSegment → List HandOver → List HandOver
-add_handed none out acc hs = hs
-add_handed (some n) out acc hs = record { count = n; message = take n out; accepted = acc } ∷ hs
+add_handed None out acc hs = hs
+add_handed (Some n) out acc hs = record { count = n; message = take n out; accepted = acc } ∷ hs
 
 -- what calls leave: the receiver and the store; what was accepted and what was handed over, the latest first
 pub record Left : Type 0 where
@@ -131,8 +129,8 @@ start r store = record { receiver = r; store = store; accepted = []; handed = []
 -- holds (document 01): slot s is marked held, the slot's record gives the accepted receive's type, parameters and data length, and the slot's
 -- first octets in the store are its data; the slot is empty if there is none
 abbrev pub HoldsAt : Receiver → List ℕ → ℕ → Option WholeSegment → Type 0
-HoldsAt r store s none = is_held r s ≡ false
-HoldsAt r store s (some x) =
+HoldsAt r store s None = is_held r s ≡ false
+HoldsAt r store s (Some x) =
     (is_held r s ≡ true) × (kind_at r s ≡ x.kind) × (length_at r s ≡ length x.segment_data) × (part store s (length x.segment_data) ≡ x.segment_data)
 
 -- the octets of the segments
@@ -141,8 +139,8 @@ total [] = 0
 total (x ∷ xs) = total xs + length x.segment_data
 
 abbrev pub data_of : Option WholeSegment → List ℕ
-data_of none = []
-data_of (some x) = x.segment_data
+data_of None = []
+data_of (Some x) = x.segment_data
 
 -- the data of the segments 0 to n - 1 in order
 unfoldable pub data_to : List WholeSegment → ℕ → List ℕ
@@ -154,14 +152,14 @@ data_to acc (suc n) = data_to acc n ++ data_of (find n acc)
 pub record OfAccepted (h : HandOver) : Type 0 where
   pub end : ℕ
   pub last : WholeSegment
-  pub end_accepted : find end h.accepted ≡ some last
+  pub end_accepted : find end h.accepted ≡ Some last
   pub is_end_lem : is_end last.kind ≡ true
   pub all_accepted : (s : ℕ) → s ≤ end → absent (find s h.accepted) ≡ false
-  pub none_past : (s : ℕ) → end < s → find s h.accepted ≡ none
+  pub none_past : (s : ℕ) → end < s → find s h.accepted ≡ None
   pub message_is : h.message ≡ data_to h.accepted (suc end)
   pub long_as_counted : length h.message ≡ h.count
   pub long_as_all : length h.message ≡ total h.accepted
-  pub long_as_stated : (s : ℕ) (x : WholeSegment) → find s h.accepted ≡ some x → (m : ℕ) → length_in x.kind ≡ Stated m → length h.message ≡ m
+  pub long_as_stated : (s : ℕ) (x : WholeSegment) → find s h.accepted ≡ Some x → (m : ℕ) → length_in x.kind ≡ Some m → length h.message ≡ m
 
 abbrev pub AllOfAccepted : List HandOver → Type 0
 AllOfAccepted [] = Unit {0}

@@ -1,7 +1,6 @@
 -- What has come, the delivery conditions of a list of calls, and when the message of a train is handed over. A train is its number of segments and its
 -- segments by number.
-use Rattle.std.specs.Prelude.{ℕ, ◌+◌, ◌-◌, ◌^◌, ◌≤◌, ◌<◌, min, ◌≡◌, ◌⊎◌, List, [], ◌∷◌, ◌++◌, length, take}
-use Rattle.std.proofs.Math.Option.{Option, none, some}
+use Rattle.std.specs.Prelude.{ℕ, ◌+◌, ◌-◌, ◌^◌, ◌≤◌, ◌<◌, min, ◌≡◌, ◌⊎◌, List, [], ◌∷◌, ◌++◌, length, take, Option, Some, None}
 use Rattle.tsar.specs.Layout.{WholeSegment}
 use Rattle.receiver.specs.Record.{store_octets}
 use Rattle.receiver.specs.Answers.{Step}
@@ -41,8 +40,8 @@ last_reading made (c ∷ cs) = reading c
 
 -- the reading of the last delivery, where there was one; a delivery (document 01) is a receive
 abbrev pub last_delivery : List Call → Option ℕ
-last_delivery [] = none
-last_delivery (receive a out ∷ cs) = some a.reading
+last_delivery [] = None
+last_delivery (receive a out ∷ cs) = Some a.reading
 last_delivery (advance n ∷ cs) = last_delivery cs
 last_delivery (cancel n ∷ cs) = last_delivery cs
 last_delivery (release n ∷ cs) = last_delivery cs
@@ -53,7 +52,7 @@ module _ (interval : ℕ) (t : Terms) (made : ℕ) (count : ℕ) (segment : ℕ 
   -- and at most 2^64 - 1 - interval. A deadline runs from the first delivery until every segment has come, and each delivery sets it
   pub record ReadingMeets (before : List Call) (now' : ℕ) : Type 0 where
     pub never_falls : last_reading made before ≤ now'
-    pub in_time : (set : ℕ) → last_delivery before ≡ some set → (AllHaveCome count segment before → ⊥) → now' < set + interval
+    pub in_time : (set : ℕ) → last_delivery before ≡ Some set → (AllHaveCome count segment before → ⊥) → now' < set + interval
     pub below : now' ≤ 2 ^ 64 - 1 - interval
 
   -- of a delivery: any segment of the train, Begin first; the peer, protocol and transaction that try_new was given; nothing unparsed; the output long enough
@@ -61,7 +60,7 @@ module _ (interval : ℕ) (t : Terms) (made : ℕ) (count : ℕ) (segment : ℕ 
     pub index : ℕ
     pub in_train : index < count
     pub brings : Brings (segment index) a
-    pub begin_first : last_delivery before ≡ none → index ≡ 0
+    pub begin_first : last_delivery before ≡ None → index ≡ 0
     pub peer : a.peer ≡ t.peer
     pub protocol : a.protocol ≡ t.protocol
     pub transaction : a.segment.transaction_id ≡ t.transaction_id
@@ -83,11 +82,11 @@ module _ (interval : ℕ) (t : Terms) (made : ℕ) (count : ℕ) (segment : ℕ 
 
 -- hands over (document 01): the answer carries a message, the first octets of output, as many as the answer counts
 abbrev pub HandsOver : Step → List ℕ → Type 0
-HandsOver st message = (carried st.answer ≡ some (length message)) × (take (length message) st.output ≡ message)
+HandsOver st message = (carried st.answer ≡ Some (length message)) × (take (length message) st.output ≡ message)
 
 -- a call c, made after the calls cs, whose step is st: it hands over exactly when it is the first by which every segment of the train has come, and
 -- it hands over that message
 pub record HandsOverExactly (count : ℕ) (segment : ℕ → WholeSegment) (message : List ℕ) (cs : List Call) (c : Call) (st : Step) : Type 0 where
   pub when : AllHaveCome count segment (cs ++ (c ∷ [])) → (AllHaveCome count segment cs → ⊥) → HandsOver st message
-  pub only_when : (k : ℕ) → carried st.answer ≡ some k
+  pub only_when : (k : ℕ) → carried st.answer ≡ Some k
       → AllHaveCome count segment (cs ++ (c ∷ [])) × (AllHaveCome count segment cs → ⊥) × HandsOver st message

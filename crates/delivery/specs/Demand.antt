@@ -1,6 +1,6 @@
 -- Demand 3, as one statement about a receiver that is given by its try_new and by its step function.
-use Rattle.std.specs.Prelude.{ℕ, ◌≤◌, ◌<◌, ◌≡◌, ◌≢◌, List, [], ◌∷◌, ◌++◌, length, take, drop}
-use Rattle.std.proofs.Math.Option.{none}
+use Rattle.std.specs.Prelude.{ℕ, ◌≤◌, ◌<◌, ◌≡◌, ◌≢◌, List, [], ◌∷◌, ◌++◌, length, take, drop, Option, Some, None}
+use Rattle.segmentation.specs.declared.PlannedPart.{PlannedPart}
 use Rattle.tsar.specs.Layout.{WholeSegment, whole}
 use Rattle.tsar.specs.declared.AcknowledgmentWindow.{AcknowledgmentWindow}
 use Rattle.segmentation.specs.Plan.{plan_message, even_message, segmented, segment_at}
@@ -9,8 +9,6 @@ use Rattle.segmentation.specs.declared.FrozenMessage.{FrozenMessage}
 use Rattle.tsar.specs.declared.SegmentHead.{SegmentHead}
 use Rattle.segmentation.specs.Cutting.{Cutting}
 use Rattle.segmentation.specs.declared.SegmentedMessage.{SegmentedMessage}
-use Rattle.segmentation.specs.declared.PlannedSegment.{PlannedSegment}
-use Rattle.segmentation.specs.declared.PlannedSegment.TheVariants as part
 use Rattle.receiver.specs.Record.{store_octets}
 use Rattle.receiver.specs.Answers.{Step, refused}
 use Rattle.receiver.specs.declared.Terms.{Terms}
@@ -25,14 +23,14 @@ step_after step w c = step w.receiver w.store c
 -- The only hypothesis is AllFitTypes: the calls' arguments fit their types, that is, each sequence number is an octet
 abbrev pub FirstHalf : TryNewFunction → StepFunction → Type 0
 FirstHalf new step =
-    (t : Terms) (made : ℕ) → (new t made).refused ≡ none
+    (t : Terms) (made : ℕ) → (new t made).refused ≡ None
     → (store : List ℕ) (cs : List Call) → AllFitTypes cs
     → AfterTheList t.maximum_message_octets (after step (start (new t made).receiver store) cs)
 
 -- segment i of a plan of a message, as the plan's public call gives it, with its data
-abbrev pub given_segment : PlannedSegment → List ℕ → WholeSegment
-given_segment part.NoSegment message = whole no_head.segment []
-given_segment (part.Segment x) message = whole x.head.segment (take x.head.segment_data_length (drop x.offset message))
+abbrev pub given_segment : Option PlannedPart → List ℕ → WholeSegment
+given_segment None message = whole no_head.segment []
+given_segment (Some x) message = whole x.head.segment (take x.head.segment_data_length (drop x.offset message))
 
 abbrev pub train_of : SegmentedMessage → List ℕ → ℕ → WholeSegment
 train_of p message i = given_segment (segment_at p i) message
@@ -48,7 +46,7 @@ pub data TrainFor (transaction version : ℕ) (message : List ℕ) : ℕ → (�
       → even_message (length message) budget transaction w version ceiling ≡ segmented p → TrainFor transaction version message p.count (train_of p message)
   frozen : (heads : List SegmentHead) (count : ℕ) (joined : List ℕ) (budget ceiling : ℕ)
       → (head_at heads 0).segment.transaction_id ≡ transaction
-      → frozen_refusal (record { heads = heads; count = count; joined = joined; message = message; budget = budget; version = version; ceiling = ceiling }) ≡ none
+      → frozen_refusal (record { heads = heads; count = count; joined = joined; message = message; budget = budget; version = version; ceiling = ceiling }) ≡ None
       → TrainFor transaction version message count
       (frozen_train_of (frozen_of (record { heads = heads; count = count; joined = joined; message = message; budget = budget; version = version; ceiling = ceiling })) message)
 
@@ -56,7 +54,7 @@ pub data TrainFor (transaction version : ℕ) (message : List ℕ) : ℕ → (�
 -- and the version that try_new was given, and every list of calls under the delivery conditions: of each call of it
 abbrev pub SecondHalfAt : ℕ → TryNewFunction → StepFunction → Terms → Type 0
 SecondHalfAt interval new step t =
-    (made : ℕ) → (new t made).refused ≡ none
+    (made : ℕ) → (new t made).refused ≡ None
     → (store message : List ℕ) (count : ℕ) (segment : ℕ → WholeSegment)
     → TrainFor t.transaction_id t.version message count segment
     → length message ≤ t.maximum_message_octets → store_octets ≤ length store
@@ -76,7 +74,7 @@ pub record Demand3 (interval : Terms → ℕ) (new : TryNewFunction) (step : Ste
 -- no call of any list is refused with 62, under the same hypothesis
 abbrev pub NoneRefusedWith62 : TryNewFunction → StepFunction → Type 0
 NoneRefusedWith62 new step =
-    (t : Terms) (made : ℕ) → (new t made).refused ≡ none
+    (t : Terms) (made : ℕ) → (new t made).refused ≡ None
     → (store : List ℕ) (cs : List Call) → AllFitTypes cs → (c : Call)
     → (step_after step (after step (start (new t made).receiver store) cs) c).answer ≢ refused (62, 0)
 
@@ -98,7 +96,7 @@ AllHand message (h ∷ hs) = (h.message ≡ message) × AllHand message hs
 -- with no delivery conditions: where the receives bring segments of a true cutting of a message, whoever cut it, what is handed over is that message
 abbrev pub Safety : TryNewFunction → StepFunction → Type 0
 Safety new step =
-    (t : Terms) (made : ℕ) → (new t made).refused ≡ none
+    (t : Terms) (made : ℕ) → (new t made).refused ≡ None
     → (store message : List ℕ) (transaction count : ℕ) (segment : ℕ → WholeSegment) → Cutting message transaction count segment
     → (cs : List Call) → AllBringOf count segment cs
     → AllHand message (after step (start (new t made).receiver store) cs).handed

@@ -1,9 +1,8 @@
 -- What holds after every list of calls on a receiver that try_new gave, kept by each call; the first half of demand 3 follows.
-use Rattle.std.specs.Prelude.{ℕ, ◌*◌, ◌≤◌, ◌<◌, ◌≡◌, refl, List, [], ◌∷◌, Bool, true, false, ◌||◌, length, eqb}
+use Rattle.std.specs.Prelude.{ℕ, ◌*◌, ◌≤◌, ◌<◌, ◌≡◌, refl, List, [], ◌∷◌, Bool, true, false, ◌||◌, length, eqb, Option, Some, None}
 use Rattle.std.proofs.Common.{sym, ap, ◌∙◌, subst, arith, length-set}
 use Rattle.std.proofs.lemmas.Bool.{false≢true, not-false}
 use Rattle.std.proofs.Math.Bool.{and-false}
-use Rattle.std.proofs.Math.Option.{none}
 use Rattle.std.proofs.lemmas.List.{length-replicate}
 use Rattle.std.proofs.lemmas.List.Edits.{sets}
 use Rattle.words.specs.Marks.{marked, no_marks}
@@ -11,10 +10,7 @@ use Rattle.words.specs.Laws.{marked_none}
 use Rattle.words.specs.declared.Words.{Words}
 use Rattle.tsar.specs.Layout.{WholeSegment}
 use Rattle.tsar.specs.Kinds.{states_other}
-use Rattle.tsar.specs.declared.MessageLength.{MessageLength}
 use Rattle.response.specs.declared.Status.{Status}
-use Rattle.receiver.specs.declared.EndSequence.{EndSequence}
-use Rattle.receiver.specs.declared.EndSequence.TheVariants as end
 use Rattle.receiver.specs.declared.Slot.{Slot}
 use Rattle.receiver.specs.declared.ReceiverState.{ReceiverState}
 use Rattle.receiver.specs.declared.ReceiverState.TheVariants.{AwaitingBegin, Receiving, Complete, Failed, Expired, Canceled}
@@ -39,7 +35,7 @@ pub record HandedOf (acc : List WholeSegment) (handed : List HandOver) : Type 0 
   pub is : handed ≡ record { count = count; message = message; accepted = acc } ∷ []
 
 -- what holds of a receiver with the terms that it has now, and t those that try_new was given; of the store, of what was accepted and of what was handed over
-pub record Inv (t terms : Terms) (state : ReceiverState) (held : Words) (lengths : List ℕ) (slots : List Slot) (end_sequence : EndSequence) (stated : MessageLength) (count : ℕ) (store : List ℕ) (acc : List WholeSegment) (handed : List HandOver) : Type 0 where
+pub record Inv (t terms : Terms) (state : ReceiverState) (held : Words) (lengths : List ℕ) (slots : List Slot) (end_sequence : Option ℕ) (stated : Option ℕ) (count : ℕ) (store : List ℕ) (acc : List WholeSegment) (handed : List HandOver) : Type 0 where
   -- the terms never change
   pub same : terms ≡ t
   pub long_lengths : length lengths ≡ 256
@@ -98,7 +94,7 @@ open_takes Expired e = e
 open_takes Canceled e = e
 
 -- closed: what was handed over stays, and nothing is held
-closed_inv : (t : Terms) (w : Left) → InvOf t w → (s : ReceiverState) → taking s ≡ false → (z : EndSequence) (n : MessageLength) (store : List ℕ)
+closed_inv : (t : Terms) (w : Left) → InvOf t w → (s : ReceiverState) → taking s ≡ false → (z : Option ℕ) (n : Option ℕ) (store : List ℕ)
     → Inv t w.receiver.terms s no_marks empty_lengths empty_slots z n 0 store w.accepted w.handed
 closed_inv t w I s f z n store = record {
   same = I.same;
@@ -123,9 +119,9 @@ module _ (interval : ℕ) (t : Terms) (w : Left) (I : InvOf t w) (a : Arrival) (
   r = w.receiver
 
   -- the end at which the slots are full
-  ends : (z : EndSequence) → full_with r.held (sequence a) z ≡ true → (e : ℕ) × (z ≡ end.At e) × (full_with r.held (sequence a) (end.At e) ≡ true)
-  ends end.Unknown e = absurd (false≢true e)
-  ends (end.At n) e = (n, refl, e)
+  ends : (z : Option ℕ) → full_with r.held (sequence a) z ≡ true → (e : ℕ) × (z ≡ Some e) × (full_with r.held (sequence a) (Some e) ≡ true)
+  ends None e = absurd (false≢true e)
+  ends (Some n) e = (n, refl, e)
 
   module _ (A : Admitted r a w.store o) where
     -- the body before the call
@@ -146,7 +142,7 @@ module _ (interval : ℕ) (t : Terms) (w : Left) (I : InvOf t w) (a : Arrival) (
       store' = sets w.store (slot_octets * sequence a) a.octets
 
       -- none was accepted with its number
-      unfound : find (sequence a) w.accepted ≡ none
+      unfound : find (sequence a) w.accepted ≡ None
       unfound = free_absent r.held r.lengths r.slots w.store (sequence a) (find (sequence a) w.accepted) (B.holds (sequence a) seq) N.free
 
       -- the body with the segment
@@ -246,7 +242,7 @@ after_inv interval t w (c ∷ cs) h I = after_inv interval t (then (step_of inte
 -- ---- try_new
 
 -- where try_new refuses nothing, its record is the empty one
-pub made_is : (t : Terms) (made : ℕ) → (try_new_of t made).refused ≡ none → (try_new_of t made).receiver ≡ empty t AwaitingBegin made
+pub made_is : (t : Terms) (made : ℕ) → (try_new_of t made).refused ≡ None → (try_new_of t made).receiver ≡ empty t AwaitingBegin made
 made_is t made e = ap (λ (m : Made). m.receiver) (makes t made e)
 
 -- the empty record has it
@@ -279,7 +275,7 @@ fresh_inv t made store = record {
 }
 
 -- the record of a try_new that refuses nothing has it, with any store
-pub start_inv : (t : Terms) (made : ℕ) → (try_new_of t made).refused ≡ none → (store : List ℕ) → InvOf t (start (try_new_of t made).receiver store)
+pub start_inv : (t : Terms) (made : ℕ) → (try_new_of t made).refused ≡ None → (store : List ℕ) → InvOf t (start (try_new_of t made).receiver store)
 start_inv t made e store = subst (λ (z : Receiver). InvOf t (start z store)) (sym (made_is t made e)) (fresh_inv t made store)
 
 -- every list of calls on a receiver that try_new gave leaves what the first half of the demand says

@@ -3,8 +3,7 @@
 -- and changes nothing else. 37 changes nothing. .. Failure, expiry and cancelling wipe the store: its first 65,280 octets become 0. A newly held
 -- segment of n octets changes the first n of its slot (255 octets a slot, in sequence). Output changes only in the octets written.' Document 02,
 -- 2026-07: a release wipes the store too. Over any record, store and output: none need be reached. The other late cases are the sender's.
-use Rattle.std.specs.Prelude.{ℕ, ◌+◌, ◌*◌, ◌≤◌, ◌<◌, ◌≡◌, List, [], ◌⊎◌, true, false, length, get_or}
-use Rattle.std.proofs.Math.Option.{none, some}
+use Rattle.std.specs.Prelude.{ℕ, ◌+◌, ◌*◌, ◌≤◌, ◌<◌, ◌≡◌, List, [], ◌⊎◌, true, false, length, get_or, Some, None}
 use Rattle.tsar.specs.Rows.{Refusal}
 use Rattle.tsar.specs.Kinds.{prohibited}
 use Rattle.receiver.specs.Record.{complete, late, taking, slot_octets, store_octets, is_held, part, read}
@@ -120,8 +119,8 @@ StoreLeft step =
 -- how many octets of a message are handed over
 abbrev pub handed : Answer → ℕ
 handed (refused n) = 0
-handed (answered response none) = 0
-handed (answered response (some n)) = n
+handed (answered response None) = 0
+handed (answered response (Some n)) = n
 
 -- output changes only in the octets written
 abbrev pub OutputLeft : StepFunction → Type 0

@@ -1,9 +1,8 @@
 -- What a call leaves, proved of our receiver: by the ways in which a call can end (Rules). Assumes nothing.
-use Rattle.std.specs.Prelude.{ℕ, zero, suc, ◌*◌, ◌≤◌, ◌<◌, ◌≡◌, ◌⊎◌, List, [], ◌∷◌, Bool, not, ◌&&◌, ◌||◌, eqb, length, drop, set}
+use Rattle.std.specs.Prelude.{ℕ, zero, suc, ◌*◌, ◌≤◌, ◌<◌, ◌≡◌, ◌⊎◌, List, [], ◌∷◌, Bool, not, ◌&&◌, ◌||◌, eqb, length, drop, set, Option, Some, None}
 use Rattle.std.proofs.Math.Path.{refl, ap}
 use Rattle.std.proofs.Common.{sym, ◌∙◌, subst, inl, inr, ⊎_elim, length-append, length-take, get_or-set_other}
 use Rattle.std.proofs.Math.Bool.{true, false}
-use Rattle.std.proofs.Math.Option.{Option, none, some}
 use native.Mathlib.Omega.{arith}
 use Rattle.std.proofs.Math.Decide.{ℕ_discrete}
 use borrow.Author.Tests.{ltb-false, ltb-true, le-leb, leb-true, eqb-true, not-false}
@@ -21,10 +20,6 @@ use Rattle.tsar.specs.Rows.{Refusal, first_of, refusal, refusal_none, refusal_pa
 use Rattle.tsar.specs.Kinds.{prohibited}
 use Rattle.receiver.specs.declared.ReceiverState.{ReceiverState}
 use Rattle.receiver.specs.declared.ReceiverState.TheVariants.{AwaitingBegin, Receiving, Complete, Failed, Expired, Canceled}
-use Rattle.receiver.specs.declared.EndSequence.{EndSequence}
-use Rattle.receiver.specs.declared.EndSequence.TheVariants as end
-use Rattle.receiver.specs.declared.Deadline.{Deadline}
-use Rattle.receiver.specs.declared.Deadline.TheVariants as deadline
 use Rattle.receiver.specs.declared.Receiver.{Receiver}
 use Rattle.receiver.specs.Record.{interval_of, taking, awaiting, receiving, running, complete, late, due, slot_octets, store_octets, is_held, held_length, part, wiped, full_with, joined, faults, impossible}
 use Rattle.receiver.specs.Answers.{refused, Step, refuses, last_entry}
@@ -58,9 +53,9 @@ closing r a store = by_rows (Closing r a) (slot_rules r a store) keeps (
 )
 
 -- past the deadline is at or past it
-pub late_due : (d : Deadline) (n : ℕ) → late d n ≡ true → due d n ≡ true
-late_due deadline.Off n e = e
-late_due (deadline.At d) n e = le-leb d n (let h = ltb-true d n e in omega arith)
+pub late_due : (d : Option ℕ) (n : ℕ) → late d n ≡ true → due d n ≡ true
+late_due None n e = e
+late_due (Some d) n e = le-leb d n (let h = ltb-true d n e in omega arith)
 
 module _ (interval : ℕ) (r : Receiver) (store : List ℕ) (a : Arrival) (out : List ℕ) where
   -- what a receive that is refused leaves
@@ -78,7 +73,7 @@ module _ (interval : ℕ) (r : Receiver) (store : List ℕ) (a : Arrival) (out :
   left_settled finishes c n e = let z : ◌≡◌ {A = ℕ} 0 1 = cc in absurd (omega arith)
 
   -- advance at the reading of a late receive under Prohibited
-  advanced : refusal (receive_rows interval r a store out) ≡ none → late r.progress.deadline_monotonic_ms a.reading ≡ true → prohibited r.progress.services.acknowledgment_window ≡ true
+  advanced : refusal (receive_rows interval r a store out) ≡ None → late r.progress.deadline_monotonic_ms a.reading ≡ true → prohibited r.progress.services.acknowledgment_window ≡ true
       → advance_of r store a.reading ≡ fires true true r store a.reading
   unfolding advance_of
   advanced e l p =
@@ -87,7 +82,7 @@ module _ (interval : ℕ) (r : Receiver) (store : List ℕ) (a : Arrival) (out :
       ∙ ap (λ (b : Bool). fires b (prohibited r.progress.services.acknowledgment_window) r store a.reading) (late_due r.progress.deadline_monotonic_ms a.reading l)
       ∙ ap (λ (b : Bool). fires true b r store a.reading) p
 
-  left_late : refusal (receive_rows interval r a store out) ≡ none → (b p : Bool) → late r.progress.deadline_monotonic_ms a.reading ≡ b → prohibited r.progress.services.acknowledgment_window ≡ p
+  left_late : refusal (receive_rows interval r a store out) ≡ None → (b p : Bool) → late r.progress.deadline_monotonic_ms a.reading ≡ b → prohibited r.progress.services.acknowledgment_window ≡ p
       → Left (late_or interval b p r a store out)
   left_late e true true l p n q =
       let v = advanced e l p in
@@ -108,8 +103,8 @@ module _ (interval : ℕ) (r : Receiver) (store : List ℕ) (a : Arrival) (out :
   receive_left = go (refusal (receive_rows interval r a store out)) refl
     where
       go : (v : Option Refusal) → refusal (receive_rows interval r a store out) ≡ v → Left (receive_after interval v r a store out)
-      go (some n) e = left_refused n
-      go none e = left_late e (late r.progress.deadline_monotonic_ms a.reading) (prohibited r.progress.services.acknowledgment_window) refl refl
+      go (Some n) e = left_refused n
+      go None e = left_late e (late r.progress.deadline_monotonic_ms a.reading) (prohibited r.progress.services.acknowledgment_window) refl refl
 
 module _ (r : Receiver) (store : List ℕ) (m : ℕ) where
   abbrev Still : Call → Step → Type 0
@@ -202,18 +197,18 @@ module _ (interval : ℕ) (r : Receiver) (store : List ℕ) (a : Arrival) (out :
       (λ N right f p q. filling store a out r A seq) (λ N f p q. filling store a out r A seq))
 
 -- where the record is possible a deadline runs in Receiving alone
-running_receiving : (s : ReceiverState) (d : Deadline) → (not (receiving s) && running d) ≡ false → running d ≡ true → receiving s ≡ true
-running_receiving s deadline.Off f e = never _ refl e
-running_receiving AwaitingBegin (deadline.At d) f e = never _ f refl
-running_receiving Receiving (deadline.At d) f e = refl
-running_receiving Complete (deadline.At d) f e = never _ f refl
-running_receiving (Failed x) (deadline.At d) f e = never _ f refl
-running_receiving Expired (deadline.At d) f e = never _ f refl
-running_receiving Canceled (deadline.At d) f e = never _ f refl
+running_receiving : (s : ReceiverState) (d : Option ℕ) → (not (receiving s) && running d) ≡ false → running d ≡ true → receiving s ≡ true
+running_receiving s None f e = never _ refl e
+running_receiving AwaitingBegin (Some d) f e = never _ f refl
+running_receiving Receiving (Some d) f e = refl
+running_receiving Complete (Some d) f e = never _ f refl
+running_receiving (Failed x) (Some d) f e = never _ f refl
+running_receiving Expired (Some d) f e = never _ f refl
+running_receiving Canceled (Some d) f e = never _ f refl
 
-due_running : (d : Deadline) (n : ℕ) → due d n ≡ true → running d ≡ true
-due_running deadline.Off n e = e
-due_running (deadline.At d) n e = refl
+due_running : (d : Option ℕ) (n : ℕ) → due d n ≡ true → running d ≡ true
+due_running None n e = e
+due_running (Some d) n e = refl
 
 -- so a receiver whose deadline is due is Receiving
 pub due_receiving : (r : Receiver) (n : ℕ) → impossible r ≡ false → due r.progress.deadline_monotonic_ms n ≡ true → receiving r.progress.state ≡ true
@@ -351,7 +346,7 @@ module _ (r : Receiver) (a : Arrival) (seq : sequence a < 256) (short : length a
       let e : f t ≡ get_or r.lengths t 0 = rw m in
       omega arith
 
-  module _ (e : ℕ) (full : full_with r.held (sequence a) (end.At e) ≡ true) where
+  module _ (e : ℕ) (full : full_with r.held (sequence a) (Some e) ≡ true) where
     filled_at : (t : ℕ) → t < suc e → (t ≡ sequence a) ⊎ (marked r.held t ≡ true)
     filled_at t l =
         ⊎_elim (λ (p : eqb t (sequence a) ≡ true). inl (eqb-true t (sequence a) p)) (λ (p : marked r.held t ≡ true). inr p)
@@ -375,9 +370,9 @@ module _ (r : Receiver) (a : Arrival) (seq : sequence a < 256) (short : length a
     most : (store : List ℕ) → length (joined lengths' store (suc e)) ≤ store_octets
     most store = omega (arith, joined_most lengths' store (suc e) each_most, end_slot)
 
-  whole_most : (store : List ℕ) (x : EndSequence) → full_with r.held (sequence a) x ≡ true → length (joined lengths' store (suc (last_entry false (holding r.held (sequence a)) x))) ≤ store_octets
-  whole_most store end.Unknown full = let z : ◌≡◌ {A = ℕ} 0 1 = cc in absurd (omega arith)
-  whole_most store (end.At e) full = most e full store
+  whole_most : (store : List ℕ) (x : Option ℕ) → full_with r.held (sequence a) x ≡ true → length (joined lengths' store (suc (last_entry false (holding r.held (sequence a)) x))) ≤ store_octets
+  whole_most store None full = let z : ◌≡◌ {A = ℕ} 0 1 = cc in absurd (omega arith)
+  whole_most store (Some e) full = most e full store
 
 module _ (interval : ℕ) (r : Receiver) (store : List ℕ) (a : Arrival) (out : List ℕ) (seq : sequence a < 256) where
   abbrev Most : Step → Type 0
@@ -388,8 +383,8 @@ module _ (interval : ℕ) (r : Receiver) (store : List ℕ) (a : Arrival) (out :
   receive_most = go (refusal (receive_rows interval r a store out)) refl
     where
       go : (v : Option Refusal) → refusal (receive_rows interval r a store out) ≡ v → Most (receive_after interval v r a store out)
-      go (some n) e = omega arith
-      go none e = in_time (late r.progress.deadline_monotonic_ms a.reading) (prohibited r.progress.services.acknowledgment_window)
+      go (Some n) e = omega arith
+      go None e = in_time (late r.progress.deadline_monotonic_ms a.reading) (prohibited r.progress.services.acknowledgment_window)
         where
           f : (n : ℕ) → test (receive_rows interval r a store out) n ≡ false
           f = refusal_none (receive_rows interval r a store out) e

@@ -1,8 +1,7 @@
 -- Small laws that the proofs about lists of calls cite: tests, sums, marks, parts of the store, and finding an accepted segment.
-use Rattle.std.specs.Prelude.{ℕ, zero, suc, ◌+◌, ◌*◌, ◌≤◌, ◌<◌, ◌≡◌, refl, ◌≢◌, List, [], ◌∷◌, Bool, true, false, cond, ◌&&◌, ◌||◌, length, eqb}
+use Rattle.std.specs.Prelude.{ℕ, zero, suc, ◌+◌, ◌*◌, ◌≤◌, ◌<◌, ◌≡◌, refl, ◌≢◌, List, [], ◌∷◌, Bool, true, false, cond, ◌&&◌, ◌||◌, length, eqb, Option, Some, None}
 use Rattle.std.proofs.Common.{sym, ap, ◌∙◌, subst, ⊎_elim, arith, add-zero, add-suc, eqb-true, eq-eqb, ne_eqb}
 use Rattle.std.proofs.lemmas.Bool.{false≢true}
-use Rattle.std.proofs.Math.Option.{Option, none, some}
 use Rattle.std.proofs.Math.Decide.{ℕ_discrete}
 use Rattle.std.proofs.lemmas.List.Edits.{sets}
 use Rattle.octets.specs.Laws.{part_before, part_after, part_sets}
@@ -122,8 +121,8 @@ part_same store l s room small short = part_sets store (slot_octets * s) l (leng
 -- ---- finding a segment
 
 -- what is found among the accepted and one more
-pub find_new : (P : WholeSegment → Type 0) (x : WholeSegment) (acc : List WholeSegment) (s : ℕ) (y : WholeSegment) → find s (x ∷ acc) ≡ some y
-    → (x.sequence_number ≡ s → P x) → (find s acc ≡ some y → P y) → P y
+pub find_new : (P : WholeSegment → Type 0) (x : WholeSegment) (acc : List WholeSegment) (s : ℕ) (y : WholeSegment) → find s (x ∷ acc) ≡ Some y
+    → (x.sequence_number ≡ s → P x) → (find s acc ≡ Some y → P y) → P y
 find_new P x acc s y f new old = go (eqb x.sequence_number s) refl
   where
     go : (b : Bool) → eqb x.sequence_number s ≡ b → P y
@@ -131,15 +130,15 @@ find_new P x acc s y f new old = go (eqb x.sequence_number s) refl
     go false e = old cc
 
 -- the one more is found
-pub find_here : (x : WholeSegment) (acc : List WholeSegment) (s : ℕ) → x.sequence_number ≡ s → find s (x ∷ acc) ≡ some x
+pub find_here : (x : WholeSegment) (acc : List WholeSegment) (s : ℕ) → x.sequence_number ≡ s → find s (x ∷ acc) ≡ Some x
 find_here x acc s e = rw (eq-eqb x.sequence_number s e)
 
 -- what was found stays, where the one more has a number of its own
-pub find_kept : (x : WholeSegment) (acc : List WholeSegment) (s : ℕ) (y : WholeSegment) → find x.sequence_number acc ≡ none → find s acc ≡ some y
-    → find s (x ∷ acc) ≡ some y
+pub find_kept : (x : WholeSegment) (acc : List WholeSegment) (s : ℕ) (y : WholeSegment) → find x.sequence_number acc ≡ None → find s acc ≡ Some y
+    → find s (x ∷ acc) ≡ Some y
 find_kept x acc s y n f = go (eqb x.sequence_number s) refl
   where
-    go : (b : Bool) → eqb x.sequence_number s ≡ b → cond b (some x) (find s acc) ≡ some y
+    go : (b : Bool) → eqb x.sequence_number s ≡ b → cond b (Some x) (find s acc) ≡ Some y
     go true e = let p : x.sequence_number ≡ s = eqb-true _ _ e in cc
     go false e = f
 
@@ -147,21 +146,21 @@ find_kept x acc s y n f = go (eqb x.sequence_number s) refl
 pub find_present : (x : WholeSegment) (acc : List WholeSegment) (s : ℕ) → absent (find s acc) ≡ false → absent (find s (x ∷ acc)) ≡ false
 find_present x acc s f = go (eqb x.sequence_number s)
   where
-    go : (b : Bool) → absent (cond b (some x) (find s acc)) ≡ false
+    go : (b : Bool) → absent (cond b (Some x) (find s acc)) ≡ false
     go true = refl
     go false = f
 
 -- what is there is some segment
-pub present : (o : Option WholeSegment) → absent o ≡ false → (x : WholeSegment) × (o ≡ some x)
-present none e = absurd (false≢true (sym e))
-present (some x) e = (x, refl)
+pub present : (o : Option WholeSegment) → absent o ≡ false → (x : WholeSegment) × (o ≡ Some x)
+present None e = absurd (false≢true (sym e))
+present (Some x) e = (x, refl)
 
 -- what is not there is none
-pub missing : (o : Option WholeSegment) → absent o ≡ true → o ≡ none
-missing none e = refl
-missing (some x) e = absurd (false≢true e)
+pub missing : (o : Option WholeSegment) → absent o ≡ true → o ≡ None
+missing None e = refl
+missing (Some x) e = absurd (false≢true e)
 
 -- what is found has the number asked for
-pub find_number : (s : ℕ) (acc : List WholeSegment) (x : WholeSegment) → find s acc ≡ some x → x.sequence_number ≡ s
+pub find_number : (s : ℕ) (acc : List WholeSegment) (x : WholeSegment) → find s acc ≡ Some x → x.sequence_number ≡ s
 find_number s [] x f = cc
 find_number s (y ∷ acc) x f = find_new (λ z. z.sequence_number ≡ s) y acc s x f (λ e. e) (find_number s acc x)

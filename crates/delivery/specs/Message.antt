@@ -1,10 +1,9 @@
 -- The message that a complete receiver hands over: the data of the accepted segments, 0 to the end in order, in the first octets of the output.
 use Prim.Native.Nat.{ℕ, zero, suc, ◌+◌, ◌-◌, ◌≤◌, ◌<◌, min}
-use Rattle.std.specs.Prelude.{◌≡◌, Bool, true, false, ◌||◌, length, get_or, take, eqb}
+use Rattle.std.specs.Prelude.{◌≡◌, Bool, true, false, ◌||◌, length, get_or, take, eqb, Option, Some, None}
 use Rattle.std.proofs.Math.Path.{refl, ap₂}
 use Rattle.std.proofs.Common.{sym, ap, ◌∙◌, arith, eqb-true}
 use mathlib.Core.List.{List, ◌++◌}
-use Rattle.std.proofs.Math.Option.{Option, none, some}
 use Rattle.std.proofs.Math.ListN.{length-append}
 use Rattle.std.proofs.lemmas.List.Edits.{sets}
 use Rattle.std.proofs.lemmas.Bool.{eqb-false, not-false}
@@ -14,9 +13,6 @@ use Rattle.words.specs.Search.{all_below_true}
 use Rattle.words.specs.declared.Words.{Words}
 use Rattle.tsar.specs.Layout.{WholeSegment}
 use Rattle.tsar.specs.Kinds.{states_other}
-use Rattle.tsar.specs.declared.MessageLength.{MessageLength}
-use Rattle.receiver.specs.declared.EndSequence.{EndSequence}
-use Rattle.receiver.specs.declared.EndSequence.TheVariants as end
 use Rattle.receiver.specs.declared.Slot.{Slot}
 use Rattle.receiver.specs.Record.{part, held_length, sum_to, joined, full_with, store_octets}
 use Rattle.receiver.specs.Answers.{last_entry}
@@ -25,7 +21,7 @@ use Rattle.delivery.specs.Lists.{never, sum_to_past, sum_to_most, holding, marke
 use Rattle.delivery.specs.Body.{Body, Holds, held_found, free_absent}
 
 -- slots that are full up to e, counting q as held, are full once q is held
-pub full_after : (held : Words) (q e : ℕ) → e < 256 → full_with held q (end.At e) ≡ true → (s : ℕ) → s < suc e → marked (holding held q) s ≡ true
+pub full_after : (held : Words) (q e : ℕ) → e < 256 → full_with held q (Some e) ≡ true → (s : ℕ) → s < suc e → marked (holding held q) s ≡ true
 full_after held q e h f s l = go (eqb s q) refl (all_below_true (suc e) (λ t. eqb t q || marked held t) f s l)
   where
     go : (b : Bool) → eqb s q ≡ b → (b || marked held s) ≡ true → marked (holding held q) s ≡ true
@@ -35,13 +31,13 @@ full_after held q e h f s l = go (eqb s q) refl (all_below_true (suc e) (λ t. e
 module _ (held : Words) (lengths : List ℕ) (slots : List Slot) (store : List ℕ) where
   -- a slot counts the octets of what was accepted for it
   pub octets_of : (s : ℕ) (o : Option WholeSegment) → Holds held lengths slots store s o → held_length held lengths s ≡ length (data_of o)
-  octets_of s none h = rw h
-  octets_of s (some x) h = rw h.0 h.2
+  octets_of s None h = rw h
+  octets_of s (Some x) h = rw h.0 h.2
 
   -- a held slot's octets are the data of what was accepted for it
   part_is : (s : ℕ) (o : Option WholeSegment) → Holds held lengths slots store s o → marked held s ≡ true → part store s (get_or lengths s 0) ≡ data_of o
-  part_is s none h e = never _ h e
-  part_is s (some x) h e = ap (part store s) h.2 ∙ h.3
+  part_is s None h e = never _ h e
+  part_is s (Some x) h e = ap (part store s) h.2 ∙ h.3
 
   module _ (acc : List WholeSegment) (holds : (s : ℕ) → s < 256 → Holds held lengths slots store s (find s acc)) where
     -- full slots joined are the data accepted
@@ -61,17 +57,17 @@ module _ (held : Words) (lengths : List ℕ) (slots : List Slot) (store : List �
         ∙ ap₂ ◌+◌ (length_is n (omega arith)) (sym (octets_of n (find n acc) (holds n (omega arith))))
 
 -- no slot counts more than 255 octets
-pub octets_small : {m : ℕ} {held : Words} {lengths : List ℕ} {slots : List Slot} {end_sequence : EndSequence} {stated : MessageLength} {count : ℕ} {store : List ℕ} {acc : List WholeSegment}
+pub octets_small : {m : ℕ} {held : Words} {lengths : List ℕ} {slots : List Slot} {end_sequence : Option ℕ} {stated : Option ℕ} {count : ℕ} {store : List ℕ} {acc : List WholeSegment}
     → Body m held lengths slots end_sequence stated count store acc → (s : ℕ) → s < 256 → held_length held lengths s ≤ 255
 octets_small {held = held} {lengths = lengths} {slots = slots} {store = store} {acc = acc} B s h =
     rw (octets_of held lengths slots store s (find s acc) (B.holds s h)) (go (find s acc) refl)
   where
     go : (o : Option WholeSegment) → find s acc ≡ o → length (data_of o) ≤ 255
-    go none e = omega arith
-    go (some x) e = B.small s x e
+    go None e = omega arith
+    go (Some x) e = B.small s x e
 
-module _ {m : ℕ} {held : Words} {lengths : List ℕ} {slots : List Slot} {end_sequence : EndSequence} {stated : MessageLength} {count : ℕ} {store : List ℕ} {acc : List WholeSegment}
-    (B : Body m held lengths slots end_sequence stated count store acc) (e : ℕ) (p : end_sequence ≡ end.At e) (full : (s : ℕ) → s < suc e → marked held s ≡ true)
+module _ {m : ℕ} {held : Words} {lengths : List ℕ} {slots : List Slot} {end_sequence : Option ℕ} {stated : Option ℕ} {count : ℕ} {store : List ℕ} {acc : List WholeSegment}
+    (B : Body m held lengths slots end_sequence stated count store acc) (e : ℕ) (p : end_sequence ≡ Some e) (full : (s : ℕ) → s < suc e → marked held s ≡ true)
     (right : states_other stated count ≡ false) (out : List ℕ) (room : min m store_octets ≤ length out) where
   -- what finishes joins
   abbrev message : List ℕ
@@ -87,7 +83,7 @@ module _ {m : ℕ} {held : Words} {lengths : List ℕ} {slots : List Slot} {end_
 
   -- the slots joined are the data accepted
   is_data : message ≡ data_to acc (suc e)
-  is_data = ap (λ (z : EndSequence). joined lengths store (suc (last_entry false held z))) p ∙ joined_is held lengths slots store acc B.holds (suc e) in_range full
+  is_data = ap (λ (z : Option ℕ). joined lengths store (suc (last_entry false held z))) p ∙ joined_is held lengths slots store acc B.holds (suc e) in_range full
 
   -- nothing past the end counts
   past : sum_to 256 (held_length held lengths) ≡ sum_to (suc e) (held_length held lengths)
@@ -111,12 +107,12 @@ module _ {m : ℕ} {held : Words} {lengths : List ℕ} {slots : List Slot} {end_
   is_message = front_sets out message fits
 
   -- nothing past the end was accepted
-  none_past : (s : ℕ) → e < s → find s acc ≡ none
+  none_past : (s : ℕ) → e < s → find s acc ≡ None
   none_past s l = go (find s acc) refl
     where
-      go : (f : Option WholeSegment) → find s acc ≡ f → find s acc ≡ none
-      go none q = q
-      go (some x) q =
+      go : (f : Option WholeSegment) → find s acc ≡ f → find s acc ≡ None
+      go None q = q
+      go (Some x) q =
           let h = B.in_range s x q in
           free_absent held lengths slots store s (find s acc) (B.holds s h) (B.within e p s l h)
 

@@ -2,13 +2,11 @@
 -- wipe the store'; the fourth is release. Of every call on any record and any store: it closes the receiver exactly on one of the four; a call that
 -- closes wipes the store and empties the record; any other call leaves the store as it was, or newly holds a segment and changes the first octets of
 -- its slot. It is said by closing and not by whether the store changed, since a store that was 0 already is wiped too.
-use Rattle.std.specs.Prelude.{ℕ, ◌≡◌, ◌⊎◌, List, Bool, true, false, cond, not, ◌&&◌, ◌||◌}
-use Rattle.std.proofs.Math.Option.{Option, none, some}
+use Rattle.std.specs.Prelude.{ℕ, ◌≡◌, ◌⊎◌, List, Bool, true, false, cond, not, ◌&&◌, ◌||◌, Option, Some, None}
 use Rattle.receiver.specs.Record.{taking, awaiting, receiving, complete, late, due, is_held, empty_slots, empty_lengths}
 use Rattle.receiver.specs.Answers.{Step}
 use Rattle.receiver.specs.declared.ReceiverState.{ReceiverState}
 use Rattle.receiver.specs.declared.ReceiverState.TheVariants.{AwaitingBegin, Receiving, Complete, Failed, Expired, Canceled}
-use Rattle.receiver.specs.declared.Deadline.TheVariants as deadline
 use Rattle.receiver.specs.declared.Receiver.{Receiver}
 use Rattle.delivery.specs.Calls.{Call, receive, advance, cancel, release, StepFunction, FitsTypes, is_refused, has_failed, carried}
 use Rattle.delivery.specs.Delivery.{reading}
@@ -42,16 +40,16 @@ is_canceled Canceled = true
 -- incomplete reception expired, as an advance does at or past the deadline; a cancel cancels an open reception; a release releases a Complete one
 abbrev pub occasion : Call → Receiver → ReceiverState → Option Occasion
 occasion (receive a out) r s =
-    cond (taking r.progress.state && has_failed s) (some failure)
-    (cond (receiving r.progress.state && late r.progress.deadline_monotonic_ms a.reading && has_expired s) (some expiry) none)
-occasion (advance n) r s = cond (receiving r.progress.state && due r.progress.deadline_monotonic_ms n && has_expired s) (some expiry) none
-occasion (cancel n) r s = cond ((awaiting r.progress.state || receiving r.progress.state) && is_canceled s) (some cancelling) none
-occasion (release n) r s = cond (complete r.progress.state && is_canceled s) (some releasing) none
+    cond (taking r.progress.state && has_failed s) (Some failure)
+    (cond (receiving r.progress.state && late r.progress.deadline_monotonic_ms a.reading && has_expired s) (Some expiry) None)
+occasion (advance n) r s = cond (receiving r.progress.state && due r.progress.deadline_monotonic_ms n && has_expired s) (Some expiry) None
+occasion (cancel n) r s = cond ((awaiting r.progress.state || receiving r.progress.state) && is_canceled s) (Some cancelling) None
+occasion (release n) r s = cond (complete r.progress.state && is_canceled s) (Some releasing) None
 
 -- it is one of the four
 abbrev pub is_one : Option Occasion → Bool
-is_one none = false
-is_one (some o) = true
+is_one None = false
+is_one (Some o) = true
 
 -- ---- what a call does on one of them, and else
 
@@ -74,7 +72,7 @@ pub record Emptied (r : Receiver) (c : Call) (st : Step) : Type 0 where
   pub no_lengths : st.receiver.lengths ≡ empty_lengths
   pub no_slots : st.receiver.slots ≡ empty_slots
   pub counts_none : st.receiver.progress.stored_octets ≡ 0
-  pub no_deadline : st.receiver.progress.deadline_monotonic_ms ≡ deadline.Off
+  pub no_deadline : st.receiver.progress.deadline_monotonic_ms ≡ None
   pub read_at : st.receiver.progress.last_monotonic_ms ≡ reading c
   pub same_services_lem : has_failed st.receiver.progress.state ≡ false → st.receiver.progress.services ≡ r.progress.services
   pub same_end : has_failed st.receiver.progress.state ≡ false → st.receiver.progress.end_sequence ≡ r.progress.end_sequence
@@ -87,7 +85,7 @@ pub record OnOccasion (r : Receiver) (store : List ℕ) (c : Call) (st : Step) :
   -- a cancel or a release that is not refused closes
   pub acts : asks c ≡ true → is_refused st.answer ≡ false → closes r st ≡ true
   -- what closes hands nothing over
-  pub hands_none : closes r st ≡ true → carried st.answer ≡ none
+  pub hands_none : closes r st ≡ true → carried st.answer ≡ None
   -- what does not close still holds what was held
   pub still_held : closes r st ≡ false → (s : ℕ) → is_held r s ≡ true → is_held st.receiver s ≡ true
   -- what closes wipes, and empties

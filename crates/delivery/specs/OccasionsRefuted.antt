@@ -1,6 +1,5 @@
 -- The definitions that the laws of proofs/OccasionsRefuted speak of.
-use Rattle.std.specs.Prelude.{ℕ, ◌≡◌, List, [], ◌∷◌, true, cond, not, ◌&&◌, get_or}
-use Rattle.std.proofs.Math.Option.{none, some}
+use Rattle.std.specs.Prelude.{ℕ, ◌≡◌, List, [], ◌∷◌, true, cond, not, ◌&&◌, get_or, Some, None}
 use Rattle.tsar.specs.declared.AcknowledgmentWindow.TheVariants as window
 use Rattle.receiver.specs.declared.ReceiverState.{ReceiverState}
 use Rattle.receiver.specs.declared.ReceiverState.TheVariants.{AwaitingBegin, Expired, Canceled}
@@ -16,7 +15,7 @@ use Rattle.delivery.specs.Witness.{terms₀, store₀, bring}
 -- ---- each of the four occurs: a call that has the occasion, over a store that holds an octet which is not 0
 
 pub record Occurs (w : Left) (c : Call) (o : Occasion) : Type 0 where
-  pub occasion_is : occasion c w.receiver (step_after ours w c).receiver.progress.state ≡ some o
+  pub occasion_is : occasion c w.receiver (step_after ours w c).receiver.progress.state ≡ Some o
   pub stored : get_or w.store 0 0 ≡ 10
 
 -- with the Begin held
@@ -40,7 +39,7 @@ release_keeps r store (release n) = let st = ours r store (release n) in record 
 
 -- closed in a state, as cancelling closes
 abbrev pub shut_as : ReceiverState → Receiver → List ℕ → ℕ → Step
-shut_as s r store n = record { answer = answered none none; receiver = closed r s n; store = wiped store; output = [] }
+shut_as s r store n = record { answer = answered None None; receiver = closed r s n; store = wiped store; output = [] }
 
 -- an advance that releases a Complete receiver by itself, as if it had expired
 abbrev pub advance_releases : StepFunction
@@ -60,13 +59,13 @@ cancel_releases r store (release n) = ours r store (release n)
 abbrev pub idle : StepFunction
 idle r store (receive a out) = ours r store (receive a out)
 idle r store (advance n) = ours r store (advance n)
-idle r store (cancel n) = record { answer = answered none none; receiver = r; store = store; output = [] }
-idle r store (release n) = record { answer = answered none none; receiver = r; store = store; output = [] }
+idle r store (cancel n) = record { answer = answered None None; receiver = r; store = store; output = [] }
+idle r store (release n) = record { answer = answered None None; receiver = r; store = store; output = [] }
 
 -- an advance that empties a Complete receiver and leaves it AwaitingBegin, over the old store
 abbrev pub reopens : StepFunction
 reopens r store (receive a out) = ours r store (receive a out)
-reopens r store (advance n) = cond (complete r.progress.state) (record { answer = answered none none; receiver = closed r AwaitingBegin n; store = store; output = [] }) (ours r store (advance n))
+reopens r store (advance n) = cond (complete r.progress.state) (record { answer = answered None None; receiver = closed r AwaitingBegin n; store = store; output = [] }) (ours r store (advance n))
 reopens r store (cancel n) = ours r store (cancel n)
 reopens r store (release n) = ours r store (release n)
 

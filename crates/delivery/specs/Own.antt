@@ -1,8 +1,7 @@
 -- Our receiver reads its interval off its record at each call. No call changes the terms, so a list of calls on it goes the way of one interval, that of
 -- the record which it starts from; what is shown for any interval is so shown of ours.
-use Rattle.std.specs.Prelude.{ℕ, ◌≤◌, min, ◌≡◌, refl, List, [], ◌∷◌, true, not, length}
+use Rattle.std.specs.Prelude.{ℕ, ◌≤◌, min, ◌≡◌, refl, List, [], ◌∷◌, true, not, length, None}
 use Rattle.std.proofs.Common.{sym, ap, ◌∙◌, subst, le-ltb}
-use Rattle.std.proofs.Math.Option.{none}
 use Rattle.link.specs.Profile.{receiver_interval}
 use Rattle.link.specs.Laws.{neither_known}
 use Rattle.receiver.specs.declared.Terms.{Terms}
@@ -53,7 +52,7 @@ one_interval_step n w cs c e =
     ap (λ (v : Left). step_after ours v c) (one_interval n w cs e) ∙ ap (λ (m : ℕ). step_after (step_of m) (after (step_of n) w cs) c) (interval_after n w cs ∙ e)
 
 -- from try_new on it is that of try_new's profile
-pub made_interval : (t : Terms) (made : ℕ) → (try_new_of t made).refused ≡ none → interval_of (try_new_of t made).receiver ≡ receiver_interval t.profile
+pub made_interval : (t : Terms) (made : ℕ) → (try_new_of t made).refused ≡ None → interval_of (try_new_of t made).receiver ≡ receiver_interval t.profile
 made_interval t made e = ap (λ (r : Receiver). interval_of r) (made_is t made e)
 
 -- ---- the first half of demand 3, of ours

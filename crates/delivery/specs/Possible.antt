@@ -1,10 +1,9 @@
 -- A record that calls have left is none of 62's impossible ones, so that no call of any list is refused with 62.
-use Rattle.std.specs.Prelude.{ℕ, suc, ◌≤◌, ◌<◌, ◌≡◌, refl, List, [], ◌∷◌, Bool, true, false, cond, ◌&&◌, ◌||◌, eqb, ltb}
+use Rattle.std.specs.Prelude.{ℕ, suc, ◌≤◌, ◌<◌, ◌≡◌, refl, List, [], ◌∷◌, Bool, true, false, cond, ◌&&◌, ◌||◌, eqb, ltb, Option, Some, None}
 use Rattle.std.proofs.Common.{sym, ◌∙◌, subst, arith}
 use Rattle.std.proofs.Math.Path.{ap}
 use Rattle.std.proofs.Math.Bool.{not, and-false}
 use Rattle.std.proofs.lemmas.Bool.{false≢true}
-use Rattle.std.proofs.Math.Option.{Option, none, some}
 use Rattle.std.proofs.Math.Decide.{ℕ_discrete}
 use Rattle.std.proofs.Math.Dec.{leb}
 use borrow.Author.Tests.{ltb-true, le-ltb, le-leb, eq-eqb, not-false}
@@ -14,8 +13,6 @@ use Rattle.words.specs.declared.Words.{Words}
 use Rattle.link.specs.Profile.{known_profile}
 use Rattle.tsar.specs.Rows.{Refusal, first_of, refusal, refusal_none, any_pass}
 use Rattle.tsar.specs.Kinds.{is_begin, is_end}
-use Rattle.receiver.specs.declared.EndSequence.{EndSequence}
-use Rattle.receiver.specs.declared.EndSequence.TheVariants as end
 use Rattle.receiver.specs.declared.Terms.{Terms}
 use Rattle.receiver.specs.declared.Receiver.{Receiver}
 use Rattle.receiver.specs.Record.{taking, receiving, complete, receiving_or_complete, running, past_end, kind_at, held_length, sum_to, gap, faults, impossible}
@@ -32,18 +29,18 @@ use Rattle.delivery.specs.Invariant.{InvOf, open_takes, shut, start_inv}
 pub use Rattle.delivery.specs.Ready.{filled, Ready, ReadyOf, receive_ready, advance_ready, cancel_ready, release_ready, then_ready, start_ready, after_both}
 
 -- what is full up to its end has no gap before it
-filled_gap : (held : Words) (z : EndSequence) → filled held z ≡ true → gap held z ≡ false
-filled_gap held end.Unknown e = absurd (false≢true e)
-filled_gap held (end.At e) f = ap not (all_below_all e (marked held) (λ i l. all_below_true (suc e) (marked held) f i (omega arith)))
+filled_gap : (held : Words) (z : Option ℕ) → filled held z ≡ true → gap held z ≡ false
+filled_gap held None e = absurd (false≢true e)
+filled_gap held (Some e) f = ap not (all_below_all e (marked held) (λ i l. all_below_true (suc e) (marked held) f i (omega arith)))
 
 -- what try_new makes is of a known profile: it passed 64
-pub profile_known : (t : Terms) (made : ℕ) → (try_new_of t made).refused ≡ none → known_profile t.profile ≡ true
+pub profile_known : (t : Terms) (made : ℕ) → (try_new_of t made).refused ≡ None → known_profile t.profile ≡ true
 unfolding try_new_of
 profile_known t made e = not-false _ (refusal_none (try_new_rows t) (passed (refusal (try_new_rows t)) e) 2)
   where
-    passed : (v : Option Refusal) → (made_after v t made).refused ≡ none → v ≡ none
-    passed (some n) f = f
-    passed none f = refl
+    passed : (v : Option Refusal) → (made_after v t made).refused ≡ None → v ≡ None
+    passed (Some n) f = f
+    passed None f = refl
 
 -- ---- none of 62's tests holds
 
@@ -102,13 +99,13 @@ module _ (t : Terms) (w : Left) (I : InvOf t w) (S : ReadyOf w.receiver) where
       by_taking (not (past_end q.progress.end_sequence s && marked q.held s) ≡ true) (λ B. past B q.progress.end_sequence refl)
       (λ c f. rw (f s h) (ap not (and-false (past_end q.progress.end_sequence s))))
     where
-      at_end : BodyOf q w.store w.accepted → (e : ℕ) → q.progress.end_sequence ≡ end.At e → (b : Bool) → ltb e s ≡ b → not (b && marked q.held s) ≡ true
+      at_end : BodyOf q w.store w.accepted → (e : ℕ) → q.progress.end_sequence ≡ Some e → (b : Bool) → ltb e s ≡ b → not (b && marked q.held s) ≡ true
       at_end B e p true l = ap not (B.within e p s (ltb-true e s l) h)
       at_end B e p false l = refl
 
-      past : BodyOf q w.store w.accepted → (z : EndSequence) → q.progress.end_sequence ≡ z → not (past_end z s && marked q.held s) ≡ true
-      past B end.Unknown p = refl
-      past B (end.At e) p = at_end B e p (ltb e s) refl
+      past : BodyOf q w.store w.accepted → (z : Option ℕ) → q.progress.end_sequence ≡ z → not (past_end z s && marked q.held s) ≡ true
+      past B None p = refl
+      past B (Some e) p = at_end B e p (ltb e s) refl
 
   -- no deadline runs outside Receiving
   idle_else : (not (receiving q.progress.state) && running q.progress.deadline_monotonic_ms) ≡ false
@@ -163,14 +160,14 @@ module _ (t : Terms) (w : Left) (I : InvOf t w) (S : ReadyOf w.receiver) where
   )
 
   -- with a known end, that slot holds an End
-  pub end_held : taking q.progress.state ≡ true → (e : ℕ) → q.progress.end_sequence ≡ end.At e → (marked q.held e ≡ true) × (is_end (kind_at q e) ≡ true)
+  pub end_held : taking q.progress.state ≡ true → (e : ℕ) → q.progress.end_sequence ≡ Some e → (marked q.held e ≡ true) × (is_end (kind_at q e) ≡ true)
   end_held k e p =
       let o = (I.body k).ended e p in
       let h = subst (Holds q.held q.lengths q.slots w.store e) o.1.found ((I.body k).holds e o.0) in
       (h.0, ap is_end h.1 ∙ o.1.is_end_lem)
 
   -- Receiving with a known end has a gap below it
-  pub gap_below : receiving q.progress.state ≡ true → (e : ℕ) → q.progress.end_sequence ≡ end.At e → (i : ℕ) × (i < e) × (marked q.held i ≡ false)
+  pub gap_below : receiving q.progress.state ≡ true → (e : ℕ) → q.progress.end_sequence ≡ Some e → (i : ℕ) × (i < e) × (marked q.held i ≡ false)
   gap_below k e p = below (all_below_false (suc e) (marked q.held) (rw p at (S.unfilled k)))
     where
       last_held : marked q.held e ≡ true
@@ -196,11 +193,11 @@ Not62 [] = Unit {0}
 Not62 (c ∷ cs) = (c.0 ≡ true → eqb c.1.0 62 ≡ false) × Not62 cs
 
 -- such rows do not refuse with 62
-other_number : (cs : List (Bool × Refusal)) → Not62 cs → (n : Refusal) → refusal cs ≡ some n → n.0 ≡ 62 → ⊥
+other_number : (cs : List (Bool × Refusal)) → Not62 cs → (n : Refusal) → refusal cs ≡ Some n → n.0 ≡ 62 → ⊥
 other_number [] h n e s = let z : ◌≡◌ {A = ℕ} 0 1 = cc in omega arith
 other_number (c ∷ cs) h n e s = go c.0 refl (other_number cs h.1 n) e
   where
-    go : (b : Bool) → c.0 ≡ b → (refusal cs ≡ some n → n.0 ≡ 62 → ⊥) → cond b (some c.1) (refusal cs) ≡ some n → ⊥
+    go : (b : Bool) → c.0 ≡ b → (refusal cs ≡ Some n → n.0 ≡ 62 → ⊥) → cond b (Some c.1) (refusal cs) ≡ Some n → ⊥
     go true q ih f = let z : c.1 ≡ n = cc in never _ (h.0 q) (eq-eqb _ _ (ap (λ (x : Refusal). x.0) z ∙ s))
     go false q ih f = ih f s
 

@@ -1,15 +1,9 @@
 -- The definitions that the laws of proofs/Progress speak of.
-use Rattle.std.specs.Prelude.{ℕ, ◌+◌, ◌≤◌, ◌<◌, ◌≡◌, List, [], ◌∷◌, true, false, length}
-use Rattle.std.proofs.Math.Option.{none, some}
+use Rattle.std.specs.Prelude.{ℕ, ◌+◌, ◌≤◌, ◌<◌, ◌≡◌, List, [], ◌∷◌, true, false, length, Option, Some, None}
 use Rattle.tsar.specs.Layout.{WholeSegment}
 use Rattle.tsar.specs.Kinds.{states_other}
-use Rattle.tsar.specs.declared.MessageLength.{MessageLength}
 use Rattle.receiver.specs.declared.ReceiverState.{ReceiverState}
 use Rattle.receiver.specs.declared.ReceiverState.TheVariants.{AwaitingBegin, Receiving, Complete}
-use Rattle.receiver.specs.declared.EndSequence.{EndSequence}
-use Rattle.receiver.specs.declared.EndSequence.TheVariants as end
-use Rattle.receiver.specs.declared.Deadline.{Deadline}
-use Rattle.receiver.specs.declared.Deadline.TheVariants as deadline
 use Rattle.receiver.specs.declared.Terms.{Terms}
 use Rattle.receiver.specs.Record.{receiving, store_octets, sum_to}
 use Rattle.delivery.specs.Calls.{Call, Left, HandOver, find, absent}
@@ -22,33 +16,33 @@ Timely T calls now' = ReadingMeets T.interval T.terms T.made T.count T.segment c
 
 -- before the Begin; with a segment that is still to come; or with all of them, the message handed over
 pub data Phase (T : Train) (state : ReceiverState) (acc : List WholeSegment) (handed : List HandOver) (calls : List Call) : Type 0 where
-  waiting : state ≡ AwaitingBegin → acc ≡ [] → handed ≡ [] → last_delivery calls ≡ none → Phase T state acc handed calls
-  going : state ≡ Receiving → handed ≡ [] → (i : ℕ) → i < T.count → find i acc ≡ none → Phase T state acc handed calls
+  waiting : state ≡ AwaitingBegin → acc ≡ [] → handed ≡ [] → last_delivery calls ≡ None → Phase T state acc handed calls
+  going : state ≡ Receiving → handed ≡ [] → (i : ℕ) → i < T.count → find i acc ≡ None → Phase T state acc handed calls
   done : state ≡ Complete → ((i : ℕ) → i < T.count → absent (find i acc) ≡ false) → (n : ℕ) (m : List ℕ) → handed ≡ record { count = n; message = m; accepted = acc } ∷ []
       → Phase T state acc handed calls
 
 -- the deadline that the last delivery set
-pub record SetBy (interval : ℕ) (d : Deadline) (calls : List Call) : Type 0 where
+pub record SetBy (interval : ℕ) (d : Option ℕ) (calls : List Call) : Type 0 where
   pub at : ℕ
-  pub delivered : last_delivery calls ≡ some at
-  pub set : d ≡ deadline.At (at + interval)
+  pub delivered : last_delivery calls ≡ Some at
+  pub set : d ≡ Some (at + interval)
 
 -- what holds after the calls, the latest first, of a receiver's fields, the store, what was accepted and what was handed over
-pub record Holding (T : Train) (terms : Terms) (state : ReceiverState) (end_sequence : EndSequence) (stated : MessageLength) (stored : ℕ) (d : Deadline) (last : ℕ) (store : List ℕ) (acc : List WholeSegment) (handed : List HandOver) (calls : List Call) : Type 0 where
+pub record Holding (T : Train) (terms : Terms) (state : ReceiverState) (end_sequence : Option ℕ) (stated : Option ℕ) (stored : ℕ) (d : Option ℕ) (last : ℕ) (store : List ℕ) (acc : List WholeSegment) (handed : List HandOver) (calls : List Call) : Type 0 where
   pub terms_are : terms ≡ T.terms
   pub read_by : last ≤ last_reading T.made calls
   pub set_by : receiving state ≡ true → SetBy T.interval d calls
-  pub off : receiving state ≡ false → d ≡ deadline.Off
+  pub off : receiving state ≡ false → d ≡ None
   pub room : store_octets ≤ length store
   -- what was accepted is of the train, and is what has come
   pub has : OfTrain T.count T.segment acc
   pub seen : (s : ℕ) → s < T.count → HasCome (T.segment s) calls → absent (find s acc) ≡ false
-  pub shown : (s : ℕ) (x : WholeSegment) → find s acc ≡ some x → HasCome (T.segment s) calls
+  pub shown : (s : ℕ) (x : WholeSegment) → find s acc ≡ Some x → HasCome (T.segment s) calls
   -- the count, the stated length and the end are those of what was accepted
   pub counted : stored ≡ sum_to T.count (octets_at acc)
   pub agrees : states_other stated (length T.message) ≡ false
-  pub no_end : find (last_of T) acc ≡ none → end_sequence ≡ end.Unknown
-  pub at_end : absent (find (last_of T) acc) ≡ false → end_sequence ≡ end.At (last_of T)
+  pub no_end : find (last_of T) acc ≡ None → end_sequence ≡ None
+  pub at_end : absent (find (last_of T) acc) ≡ false → end_sequence ≡ Some (last_of T)
   pub phase : Phase T state acc handed calls
 
 -- the same of what calls left

@@ -1,7 +1,6 @@
 -- The definitions that the laws of proofs/ProgressReleased speak of.
-use Rattle.std.specs.Prelude.{ℕ, ◌≡◌, false}
+use Rattle.std.specs.Prelude.{ℕ, ◌≡◌, false, None}
 use mathlib.Core.List.{List, [], ◌∷◌, map}
-use Rattle.std.proofs.Math.Option.{none}
 use Rattle.receiver.specs.Record.{taking}
 use Rattle.receiver.specs.Answers.{Step}
 use Rattle.delivery.specs.Calls.{Call, Left, HandOver, carried}
@@ -12,7 +11,7 @@ use Rattle.delivery.specs.Train.{Train}
 
 -- a call leaves it closed, and hands nothing over
 abbrev pub Stays : Step → Type 0
-Stays st = (taking st.receiver.progress.state ≡ false) × (carried st.answer ≡ none)
+Stays st = (taking st.receiver.progress.state ≡ false) × (carried st.answer ≡ None)
 
 -- ---- what was handed over while a train is delivered
 

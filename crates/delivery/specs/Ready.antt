@@ -1,8 +1,7 @@
 -- What holds of every reached record beside the invariant, kept by each call: what 62 asks for, and what the order of the states brings.
-use Rattle.std.specs.Prelude.{ℕ, suc, ◌<◌, ◌≡◌, refl, ◌≢◌, List, [], ◌∷◌, Bool, true, false, ◌&&◌, ◌||◌, get_or, set, eqb}
+use Rattle.std.specs.Prelude.{ℕ, suc, ◌<◌, ◌≡◌, refl, ◌≢◌, List, [], ◌∷◌, Bool, true, false, ◌&&◌, ◌||◌, get_or, set, eqb, Option, Some, None}
 use Rattle.std.proofs.Common.{sym, ◌∙◌, subst, ⊎_elim, arith, get_or-set_same, get_or-set_other, eqb-true}
 use Rattle.std.proofs.lemmas.Bool.{false≢true, not-false}
-use Rattle.std.proofs.Math.Option.{none}
 use Rattle.words.specs.Marks.{marked, no_marks, all_below}
 use Rattle.words.specs.Search.{all_below_ext}
 use Rattle.words.specs.Laws.{marked_words_of}
@@ -11,15 +10,9 @@ use Rattle.tsar.specs.Layout.{type_of}
 use Rattle.tsar.specs.Reading.{begin_test}
 use Rattle.tsar.specs.Kinds.{is_begin, is_end, compresses, selects_crc, prohibited}
 use Rattle.tsar.specs.declared.OptionalServices.{OptionalServices}
-use Rattle.tsar.specs.declared.MessageLength.{MessageLength}
-use Rattle.tsar.specs.declared.MessageLength.TheVariants.{Unstated}
 use Rattle.tsar.specs.declared.SegmentKind.{SegmentKind}
 use Rattle.tsar.specs.declared.SegmentKind.TheVariants.{Begin, Continue, End}
 use Rattle.response.specs.declared.Status.{Status}
-use Rattle.receiver.specs.declared.EndSequence.{EndSequence}
-use Rattle.receiver.specs.declared.EndSequence.TheVariants as end
-use Rattle.receiver.specs.declared.Deadline.{Deadline}
-use Rattle.receiver.specs.declared.Deadline.TheVariants as deadline
 use Rattle.receiver.specs.declared.Slot.{Slot}
 use Rattle.receiver.specs.declared.ReceiverState.{ReceiverState}
 use Rattle.receiver.specs.declared.ReceiverState.TheVariants.{AwaitingBegin, Receiving, Complete, Failed, Expired, Canceled}
@@ -36,26 +29,26 @@ use Rattle.delivery.specs.Body.{end_cases}
 use Rattle.delivery.specs.Invariant.{InvOf, open_takes, shut, then_inv, made_is}
 
 -- an end is known, and every slot up to it is held
-abbrev pub filled : Words → EndSequence → Bool
-filled held end.Unknown = false
-filled held (end.At e) = all_below (suc e) (marked held)
+abbrev pub filled : Words → Option ℕ → Bool
+filled held None = false
+filled held (Some e) = all_below (suc e) (marked held)
 
 -- what holds of a record beside Inv
-pub record Ready (state : ReceiverState) (services : OptionalServices) (held : Words) (slots : List Slot) (end_sequence : EndSequence) (stated : MessageLength) (count : ℕ) (cutoff : Deadline) : Type 0 where
+pub record Ready (state : ReceiverState) (services : OptionalServices) (held : Words) (slots : List Slot) (end_sequence : Option ℕ) (stated : Option ℕ) (count : ℕ) (cutoff : Option ℕ) : Type 0 where
   -- a closed receiver counts nothing
   pub no_octets : taking state ≡ false → count ≡ 0
   -- in Receiving and Complete slot 0 is a held Begin, and the services have neither compression nor a CRC
   pub begun : receiving_or_complete state ≡ true → (marked held 0 && is_begin (get_or slots 0 no_slot).kind) ≡ true
   pub plain : receiving_or_complete state ≡ true → (compresses services.compression || selects_crc services.crc_status) ≡ false
   -- a deadline runs only in Receiving, and there always under Prohibited
-  pub idle : receiving state ≡ false → cutoff ≡ deadline.Off
+  pub idle : receiving state ≡ false → cutoff ≡ None
   pub waits : receiving state ≡ true → prohibited services.acknowledgment_window ≡ true → running cutoff ≡ true
   -- Complete has all up to its end, Receiving lacks some where it knows an end
   pub full : complete state ≡ true → filled held end_sequence ≡ true
   pub unfilled : receiving state ≡ true → filled held end_sequence ≡ false
   -- before the Begin there is no end and no stated length, and the services are the default ones
-  pub no_end : awaiting state ≡ true → end_sequence ≡ end.Unknown
-  pub no_length : awaiting state ≡ true → stated ≡ Unstated
+  pub no_end : awaiting state ≡ true → end_sequence ≡ None
+  pub no_length : awaiting state ≡ true → stated ≡ None
   pub no_services_lem : awaiting state ≡ true → services ≡ no_services
 
 -- of a receiver
@@ -76,7 +69,7 @@ awaits Expired k e = k
 awaits Canceled k e = k
 
 -- a closed record
-closed_ready : (s : ReceiverState) → taking s ≡ false → (v : OptionalServices) (z : EndSequence) (n : MessageLength) → Ready s v no_marks empty_slots z n 0 deadline.Off
+closed_ready : (s : ReceiverState) → taking s ≡ false → (v : OptionalServices) (z : Option ℕ) (n : Option ℕ) → Ready s v no_marks empty_slots z n 0 None
 closed_ready s f v z n = record {
   no_octets = λ e. refl;
   begun = λ e. never _ f (open_takes s e);
@@ -108,9 +101,9 @@ plain_after v (Continue n) e h = h refl
 plain_after v (End n c) e h = h refl
 
 -- the slots up to an end are held with one more segment where they were but for it
-filled_with : (held : Words) (q : ℕ) (z : EndSequence) → ((e : ℕ) → z ≡ end.At e → e < 256) → filled (holding held q) z ≡ full_with held q z
-filled_with held q end.Unknown h = refl
-filled_with held q (end.At e) h =
+filled_with : (held : Words) (q : ℕ) (z : Option ℕ) → ((e : ℕ) → z ≡ Some e → e < 256) → filled (holding held q) z ≡ full_with held q z
+filled_with held q None h = refl
+filled_with held q (Some e) h =
     let l = h e refl in
     all_below_ext (suc e) (marked (holding held q)) (λ t. eqb t q || marked held t) (λ i k. marked_words_of (λ t. eqb t q || marked held t) i (omega arith))
 
@@ -154,10 +147,10 @@ module _ (interval : ℕ) (t : Terms) (w : Left) (I : InvOf t w) (S : ReadyOf w.
     served = plain_after r.progress.services (kind a) N.served (λ b. S.plain (open_else b))
 
     -- the end is below 256
-    end_small : (e : ℕ) → end_with r a ≡ end.At e → e < 256
+    end_small : (e : ℕ) → end_with r a ≡ Some e → e < 256
     end_small e z =
         ⊎_elim (λ (h : (is_end (kind a) ≡ true) × (sequence a ≡ e)). omega (arith, h.1))
-        (λ (h : r.progress.end_sequence ≡ end.At e). ((I.body A.takes).ended e h).0)
+        (λ (h : r.progress.end_sequence ≡ Some e). ((I.body A.takes).ended e h).0)
         (end_cases r.progress.end_sequence (kind a) (sequence a) e z)
 
     -- held
@@ -257,7 +250,7 @@ then_ready interval t w (cancel n) h I S = cancel_ready interval w S n
 then_ready interval t w (release n) h I S = release_ready interval w S n
 
 -- the record of a try_new that refuses nothing has it
-pub start_ready : (t : Terms) (made : ℕ) → (try_new_of t made).refused ≡ none → ReadyOf (try_new_of t made).receiver
+pub start_ready : (t : Terms) (made : ℕ) → (try_new_of t made).refused ≡ None → ReadyOf (try_new_of t made).receiver
 start_ready t made e = subst (λ (z : Receiver). ReadyOf z) (sym (made_is t made e)) fresh
   where
     fresh : ReadyOf (empty t AwaitingBegin made)

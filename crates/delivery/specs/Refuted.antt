@@ -1,16 +1,13 @@
 -- Demand 3 does not hold of the receivers that document 01 shuts out, nor of two that release wrongly (2026-07) and one that waits too short in profile 1
 -- (2026-11), each a step function: what a wrong receiver answers in Witness's lists; nor of ours with profile 1's interval for both profiles.
-use Rattle.std.specs.Prelude.{ℕ, ◌^◌, ◌≤◌, ◌<◌, ◌≡◌, refl, List, [], true, false, cond, take, get_or}
+use Rattle.std.specs.Prelude.{ℕ, ◌^◌, ◌≤◌, ◌<◌, ◌≡◌, refl, List, [], true, false, cond, take, get_or, Option, Some, None}
 use Rattle.std.proofs.Common.{sym, ap, ◌∙◌, arith, lit≤}
-use Rattle.std.proofs.Math.Option.{Option, none, some}
 use Rattle.octets.specs.Octets.{wiped_to, same_octets}
 use Rattle.words.specs.Marks.{marked, sum_below, words_of, all_below, highest_of}
 use Rattle.link.specs.Profile.{known_profile, receiver_interval}
 use Rattle.tsar.specs.Kinds.{is_begin}
 use Rattle.tsar.specs.declared.AcknowledgmentWindow.TheVariants as window
 use Rattle.segmentation.specs.Plan.{longer}
-use Rattle.receiver.specs.declared.Deadline.{Deadline}
-use Rattle.receiver.specs.declared.Deadline.TheVariants as deadline
 use Rattle.receiver.specs.declared.ReceiverState.TheVariants.{Expired}
 use Rattle.receiver.specs.declared.Receiver.{Receiver}
 use Rattle.receiver.specs.Record.{sum_to, empty_slots, empty_lengths, wiped, joined, impossible, with, timed, read, closed}
@@ -41,7 +38,7 @@ short = lit≤ tt
 -- never hands over: ours, but its answers carry no message
 abbrev without_message : Answer → Answer
 without_message (refused n) = refused n
-without_message (answered r m) = answered r none
+without_message (answered r m) = answered r None
 
 abbrev pub never_hands_over : StepFunction
 never_hands_over r store c =
@@ -50,7 +47,7 @@ never_hands_over r store c =
 
 -- never leaves AwaitingBegin: it takes the reading, and nothing else
 abbrev pub stays_awaiting : StepFunction
-stays_awaiting r store c = record { answer = answered none none; receiver = read r (reading c); store = store; output = [] }
+stays_awaiting r store c = record { answer = answered None None; receiver = read r (reading c); store = store; output = [] }
 
 -- answers 37 at once, to every segment but a Begin
 abbrev pub due_at_once : StepFunction
@@ -77,9 +74,9 @@ stores_begin r store (cancel n) = ours r store (cancel n)
 stores_begin r store (release n) = ours r store (release n)
 
 -- sets a deadline of now: ours, but for the deadline that a receive sets, which is its own reading
-abbrev due_now : Deadline → ℕ → Deadline
-due_now deadline.Off now' = deadline.Off
-due_now (deadline.At d) now' = deadline.At now'
+abbrev due_now : Option ℕ → ℕ → Option ℕ
+due_now None now' = None
+due_now (Some d) now' = Some now'
 
 abbrev pub deadline_now : StepFunction
 deadline_now r store (receive a out) =
@@ -95,14 +92,14 @@ abbrev pub releases_open : StepFunction
 releases_open r store (receive a out) = ours r store (receive a out)
 releases_open r store (advance n) = ours r store (advance n)
 releases_open r store (cancel n) = ours r store (cancel n)
-releases_open r store (release n) = cancel_after none r store n
+releases_open r store (release n) = cancel_after None r store n
 
 -- hands over again: ours, but a release hands something over
 abbrev pub hands_again : StepFunction
 hands_again r store (receive a out) = ours r store (receive a out)
 hands_again r store (advance n) = ours r store (advance n)
 hands_again r store (cancel n) = ours r store (cancel n)
-hands_again r store (release n) = let st = ours r store (release n) in record { answer = answered none (some 0); receiver = st.receiver; store = st.store; output = st.output }
+hands_again r store (release n) = let st = ours r store (release n) in record { answer = answered None (Some 0); receiver = st.receiver; store = st.store; output = st.output }
 
 -- waits as long as profile 2 whatever its profile is
 abbrev pub waits_less : StepFunction
@@ -110,17 +107,17 @@ waits_less = step_of (receiver_interval 2)
 
 -- hands over early: something with every call
 abbrev pub early : StepFunction
-early r store c = record { answer = answered none (some 0); receiver = r; store = store; output = [] }
+early r store c = record { answer = answered None (Some 0); receiver = r; store = store; output = [] }
 
 -- ---- what they answer
 
 -- without its message an answer carries none
-carries_none : (a : Answer) → carried (without_message a) ≡ none
+carries_none : (a : Answer) → carried (without_message a) ≡ None
 carries_none (refused n) = refl
 carries_none (answered r m) = refl
 
 -- no message is not one of k octets
-pub none_some : (o : Option ℕ) (k : ℕ) → o ≡ none → o ≡ some k → ⊥
+pub none_some : (o : Option ℕ) (k : ℕ) → o ≡ None → o ≡ Some k → ⊥
 none_some o k e f = let z : ◌≡◌ {A = ℕ} 0 1 = cc in omega arith
 
 -- under Prohibited Closed, under Every4 37
@@ -150,7 +147,7 @@ stores_begin_octet = refl
 -- ---- refuted
 
 -- a receiver whose answers never carry a message, whatever else it does
-pub no_message : (step : StepFunction) → ((r : Receiver) (store : List ℕ) (c : Call) → carried (step r store c).answer ≡ none) → Demand3 own_interval try_new_of step → ⊥
+pub no_message : (step : StepFunction) → ((r : Receiver) (store : List ℕ) (c : Call) → carried (step r store c).answer ≡ None) → Demand3 own_interval try_new_of step → ⊥
 no_message step carries d =
     let h = must own_interval long short try_new_of new_made step d.second_half in
     none_some _ 7 (carries _ _ _) h.0
@@ -162,7 +159,7 @@ pub stays_awaiting_refuted : Demand3 own_interval try_new_of stays_awaiting → 
 stays_awaiting_refuted = no_message stays_awaiting (λ r store c. refl)
 
 -- a receiver that refuses every segment but a Begin, whatever else it does
-pub refuses_later : (step : StepFunction) → ((r : Receiver) (store : List ℕ) (a : Arrival) (out : List ℕ) → is_begin (kind a) ≡ false → carried (step r store (receive a out)).answer ≡ none)
+pub refuses_later : (step : StepFunction) → ((r : Receiver) (store : List ℕ) (a : Arrival) (out : List ℕ) → is_begin (kind a) ≡ false → carried (step r store (receive a out)).answer ≡ None)
     → Demand3 own_interval try_new_of step → ⊥
 refuses_later step refuses d =
     let h = must own_interval long short try_new_of new_made step d.second_half in

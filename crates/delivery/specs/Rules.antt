@@ -1,8 +1,7 @@
 -- The ways in which a call can end, each with the facts that hold there: a claim on what every call leaves is shown by these cases.
-use Rattle.std.specs.Prelude.{ℕ, ◌+◌, ◌-◌, ◌≤◌, min, ◌≡◌, Bool, true, false, not, ◌&&◌, ◌||◌, length, eqb}
+use Rattle.std.specs.Prelude.{ℕ, ◌+◌, ◌-◌, ◌≤◌, min, ◌≡◌, Bool, true, false, not, ◌&&◌, ◌||◌, length, eqb, Option, Some, None}
 use Rattle.std.proofs.Math.Path.{refl}
 use mathlib.Core.List.{List, [], ◌∷◌, ◌++◌}
-use Rattle.std.proofs.Math.Option.{Option, none, some}
 use Rattle.std.proofs.Common.{ltb-false}
 use Rattle.std.proofs.lemmas.Bool.{not-false}
 use Rattle.words.specs.Marks.{marked}
@@ -12,11 +11,9 @@ use Rattle.tsar.specs.Layout.{type_of}
 use Rattle.tsar.specs.Reading.{begin_test}
 use Rattle.tsar.specs.Writing.{length_in, crc_in}
 use Rattle.tsar.specs.declared.OptionalServices.{OptionalServices}
-use Rattle.tsar.specs.declared.MessageLength.{MessageLength}
 use Rattle.response.specs.Responses.{status_number}
 use Rattle.response.specs.declared.Status.{Status}
 use Rattle.response.specs.declared.Status.TheVariants as status
-use Rattle.receiver.specs.declared.EndSequence.{EndSequence}
 use Rattle.receiver.specs.declared.Receiver.{Receiver}
 use Rattle.receiver.specs.Record.{taking, awaiting, receiving, complete, late, due, states_below, states_above, clash, past_end, other_end, store_octets, clear_past, full_with, impossible}
 use Rattle.receiver.specs.Answers.{Step, refuses}
@@ -40,10 +37,10 @@ pub record Admitted (r : Receiver) (a : Arrival) (store out : List ℕ) : Type 0
 abbrev pub services_with : Receiver → Arrival → OptionalServices
 services_with r a = services_of r.progress.services (kind a)
 
-abbrev pub stated_with : Receiver → Arrival → MessageLength
+abbrev pub stated_with : Receiver → Arrival → Option ℕ
 stated_with r a = stated_of r.progress.message_length (length_in (kind a))
 
-abbrev pub end_with : Receiver → Arrival → EndSequence
+abbrev pub end_with : Receiver → Arrival → Option ℕ
 end_with r a = end_of r.progress.end_sequence (kind a) (sequence a)
 
 abbrev pub count_with : Receiver → Arrival → ℕ
@@ -131,7 +128,7 @@ module _ (P : Outcome → Type 0) (r : Receiver) (a : Arrival) (store : List ℕ
   )
 
 module _ (P : Step → Type 0) (interval : ℕ) (r : Receiver) (a : Arrival) (store o : List ℕ)
-    (refused' : (n : Refusal) → refusal (receive_rows interval r a store o) ≡ some n → P (refuses n r store o))
+    (refused' : (n : Refusal) → refusal (receive_rows interval r a store o) ≡ Some n → P (refuses n r store o))
     (expired : Admitted r a store o → P (late_or interval true true r a store o)) (due' : P (late_or interval true false r a store o))
     (settled : Admitted r a store o → P (settle interval (first_of (slot_rules r a store) keeps) r a store o)) where
   -- by whether it is late, and then by whether responses are prohibited
@@ -141,7 +138,7 @@ module _ (P : Step → Type 0) (interval : ℕ) (r : Receiver) (a : Arrival) (st
   in_time A false p = settled A
 
   -- where no row holds
-  admitted : refusal (receive_rows interval r a store o) ≡ none → Admitted r a store o
+  admitted : refusal (receive_rows interval r a store o) ≡ None → Admitted r a store o
   admitted e =
       let f = refusal_none (receive_rows interval r a store o) e in
       record {
@@ -160,8 +157,8 @@ module _ (P : Step → Type 0) (interval : ℕ) (r : Receiver) (a : Arrival) (st
   by_receive = go (refusal (receive_rows interval r a store o)) refl
     where
       go : (v : Option Refusal) → refusal (receive_rows interval r a store o) ≡ v → P (receive_after interval v r a store o)
-      go (some n) e = refused' n e
-      go none e = in_time (admitted e) (late r.progress.deadline_monotonic_ms a.reading) (prohibited r.progress.services.acknowledgment_window)
+      go (Some n) e = refused' n e
+      go None e = in_time (admitted e) (late r.progress.deadline_monotonic_ms a.reading) (prohibited r.progress.services.acknowledgment_window)
 
 -- ---- advance, cancel and release
 
@@ -173,42 +170,42 @@ pub record Clocked (r : Receiver) (store : List ℕ) (now' : ℕ) : Type 0 where
 
 module _ (P : Step → Type 0) (r : Receiver) (store : List ℕ) (now' : ℕ) where
   -- where none of the clock's rows holds, whatever rows stand behind them
-  clocked : (rows : List (Bool × Refusal)) → refusal (clock_rows r store now' ++ rows) ≡ none → Clocked r store now'
+  clocked : (rows : List (Bool × Refusal)) → refusal (clock_rows r store now' ++ rows) ≡ None → Clocked r store now'
   clocked rows e =
       let f = refusal_none (clock_rows r store now' ++ rows) e in
       record { room = ltb-false _ _ (f 0); possible = f 1; not_back = ltb-false _ _ (f 2) }
 
   -- advance: it is refused, or the deadline is due or not
-  pub by_advance : ((n : Refusal) → refusal (clock_rows r store now') ≡ some n → P (refuses n r store []))
+  pub by_advance : ((n : Refusal) → refusal (clock_rows r store now') ≡ Some n → P (refuses n r store []))
       → (Clocked r store now' → (b p : Bool) → due r.progress.deadline_monotonic_ms now' ≡ b → prohibited r.progress.services.acknowledgment_window ≡ p → P (fires b p r store now'))
       → P (advance_of r store now')
   unfolding advance_of
   by_advance f g = go (refusal (clock_rows r store now')) refl
     where
       go : (v : Option Refusal) → refusal (clock_rows r store now') ≡ v → P (advance_after v r store now')
-      go (some n) e = f n e
-      go none e = g (clocked [] e) (due r.progress.deadline_monotonic_ms now') (prohibited r.progress.services.acknowledgment_window) refl refl
+      go (Some n) e = f n e
+      go None e = g (clocked [] e) (due r.progress.deadline_monotonic_ms now') (prohibited r.progress.services.acknowledgment_window) refl refl
 
   -- what rows decide by cancel_after: it is refused, or closed
-  by_closing : (rows : List (Bool × Refusal)) → ((n : Refusal) → refusal rows ≡ some n → P (refuses n r store []))
-      → (refusal rows ≡ none → P (cancel_after none r store now'))
+  by_closing : (rows : List (Bool × Refusal)) → ((n : Refusal) → refusal rows ≡ Some n → P (refuses n r store []))
+      → (refusal rows ≡ None → P (cancel_after None r store now'))
       → P (cancel_after (refusal rows) r store now')
   by_closing rows f g = go (refusal rows) refl
     where
       go : (v : Option Refusal) → refusal rows ≡ v → P (cancel_after v r store now')
-      go (some n) e = f n e
-      go none e = g e
+      go (Some n) e = f n e
+      go None e = g e
 
   -- cancel: it is refused, or cancels an open reception
-  pub by_cancel : ((n : Refusal) → refusal (cancel_rows r store now') ≡ some n → P (refuses n r store []))
-      → (Clocked r store now' → (awaiting r.progress.state || receiving r.progress.state) ≡ true → P (cancel_after none r store now'))
+  pub by_cancel : ((n : Refusal) → refusal (cancel_rows r store now') ≡ Some n → P (refuses n r store []))
+      → (Clocked r store now' → (awaiting r.progress.state || receiving r.progress.state) ≡ true → P (cancel_after None r store now'))
       → P (cancel_of r store now')
   unfolding cancel_of
   by_cancel f g = by_closing (cancel_rows r store now') f (λ e. g (clocked ((not (awaiting r.progress.state || receiving r.progress.state), (38, 0)) ∷ []) e) (not-false _ (refusal_none (cancel_rows r store now') e 3)))
 
   -- release: it is refused, or releases a Complete one
-  pub by_release : ((n : Refusal) → refusal (release_rows r store now') ≡ some n → P (refuses n r store []))
-      → (Clocked r store now' → complete r.progress.state ≡ true → P (cancel_after none r store now'))
+  pub by_release : ((n : Refusal) → refusal (release_rows r store now') ≡ Some n → P (refuses n r store []))
+      → (Clocked r store now' → complete r.progress.state ≡ true → P (cancel_after None r store now'))
       → P (release_of r store now')
   unfolding release_of
   by_release f g = by_closing (release_rows r store now') f (λ e. g (clocked ((not (complete r.progress.state), (38, 0)) ∷ []) e) (not-false _ (refusal_none (release_rows r store now') e 3)))

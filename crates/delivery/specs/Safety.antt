@@ -1,7 +1,6 @@
 -- With no delivery conditions: whatever is handed over from segments of a true cutting is that message. It follows from the first half alone.
-use Rattle.std.specs.Prelude.{ℕ, ◌≡◌, List, [], ◌∷◌, not, ◌&&◌}
+use Rattle.std.specs.Prelude.{ℕ, ◌≡◌, List, [], ◌∷◌, not, ◌&&◌, Option, Some, None}
 use Rattle.std.proofs.Common.{◌∙◌, arith}
-use Rattle.std.proofs.Math.Option.{Option, none, some}
 use Rattle.tsar.specs.Rows.{either}
 use Rattle.tsar.specs.Layout.{WholeSegment}
 use Rattle.segmentation.specs.Cutting.{Cutting}
@@ -42,8 +41,8 @@ module _ (message : List ℕ) (transaction count : ℕ) (segment : ℕ → Whole
 
   -- and so does what stands behind a message
   handed_of : (m : Option ℕ) (out : List ℕ) (acc : List WholeSegment) (hs : List HandOver) → OfTrain count segment acc → AllOfTrain hs → AllOfTrain (add_handed m out acc hs)
-  handed_of none out acc hs has all = all
-  handed_of (some n) out acc hs has all = (has, all)
+  handed_of None out acc hs has all = all
+  handed_of (Some n) out acc hs has all = (has, all)
 
   -- through the whole list
   after_of : (step : StepFunction) (w : Left) (cs : List Call) → AllBringOf count segment cs → OfTrain count segment w.accepted → AllOfTrain w.handed → AllOfTrain (after step w cs).handed

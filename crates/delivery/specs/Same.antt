@@ -1,5 +1,5 @@
 -- What the receiver compares is the same where it is the same, and lengths that agree with a message's length neither clash nor pass it.
-use Rattle.std.specs.Prelude.{ℕ, ◌≤◌, ◌≡◌, refl, true, false, not}
+use Rattle.std.specs.Prelude.{ℕ, ◌≤◌, ◌≡◌, refl, true, false, not, Option, Some, None}
 use Rattle.std.proofs.Common.{ap, subst, arith, leb-false, eqb-true, le-ltb, eq-eqb}
 use Rattle.std.proofs.lemmas.Bool.{not-false}
 use Rattle.link.specs.Peer.{same_identity, same_protocol}
@@ -8,16 +8,11 @@ use Rattle.link.specs.declared.HigherLayerProtocol.{HigherLayerProtocol}
 use Rattle.link.specs.declared.HigherLayerProtocol.TheVariants.{Segmented, CarrierSpecific, Other}
 use Rattle.tsar.specs.Kinds.{states_other}
 use Rattle.tsar.specs.Layout.{compression_number, window_number, status_number}
-use Rattle.tsar.specs.declared.MessageLength.{MessageLength}
-use Rattle.tsar.specs.declared.MessageLength.TheVariants.{Unstated, Stated}
-use Rattle.tsar.specs.declared.Services.{Services}
-use Rattle.tsar.specs.declared.Services.TheVariants as optional
+use Rattle.tsar.specs.declared.OptionalServices.{OptionalServices}
 use Rattle.tsar.specs.declared.MessageCrc.{MessageCrc}
 use Rattle.tsar.specs.declared.MessageCrc.TheVariants as crc
 use Rattle.tsar.specs.declared.SegmentKind.{SegmentKind}
 use Rattle.tsar.specs.declared.SegmentKind.TheVariants.{Begin, Continue, End}
-use Rattle.receiver.specs.declared.Deadline.{Deadline}
-use Rattle.receiver.specs.declared.Deadline.TheVariants as deadline
 use Rattle.receiver.specs.Record.{late, due, clash, states_below, states_above}
 use Rattle.receiver.specs.Receive.{stated_of, same_lengths, same_services, same_crc, same_kind}
 
@@ -39,21 +34,21 @@ same_protocol_lem p q e = subst (λ (x : HigherLayerProtocol). same_protocol p x
     itself (Other o) = eq-eqb o o refl
 
 -- a stated length
-same_lengths_lem : (l : MessageLength) → same_lengths l l ≡ true
-same_lengths_lem Unstated = refl
-same_lengths_lem (Stated n) = eq-eqb n n refl
+same_lengths_lem : (l : Option ℕ) → same_lengths l l ≡ true
+same_lengths_lem None = refl
+same_lengths_lem (Some n) = eq-eqb n n refl
 
 -- services
-same_services_lem : (s : Services) → same_services s s ≡ true
-same_services_lem optional.Absent = refl
-same_services_lem (optional.SpelledOut s) =
+same_services_lem : (s : Option OptionalServices) → same_services s s ≡ true
+same_services_lem None = refl
+same_services_lem (Some s) =
     simp (eq-eqb (compression_number s.compression) (compression_number s.compression) refl, eq-eqb (window_number s.acknowledgment_window) (window_number s.acknowledgment_window) refl, eq-eqb (status_number s.crc_status) (status_number s.crc_status) refl)
 
 -- a CRC
-same_crc_lem : (c : MessageCrc) → same_crc c c ≡ true
-same_crc_lem crc.Absent = refl
-same_crc_lem (crc.Crc16 v) = eq-eqb v v refl
-same_crc_lem (crc.Crc24 v) = eq-eqb v v refl
+same_crc_lem : (c : Option MessageCrc) → same_crc c c ≡ true
+same_crc_lem None = refl
+same_crc_lem (Some (crc.Crc16 v)) = eq-eqb v v refl
+same_crc_lem (Some (crc.Crc24 v)) = eq-eqb v v refl
 
 -- a kind, with its parameters
 pub same_kind_lem : (j k : SegmentKind) → j ≡ k → same_kind j k ≡ true
@@ -67,32 +62,32 @@ same_kind_lem j k e = subst (λ (x : SegmentKind). same_kind j x ≡ true) e (it
 -- ---- lengths that agree with n
 
 -- two of them do not clash
-pub no_clash : (s t : MessageLength) (n : ℕ) → states_other s n ≡ false → states_other t n ≡ false → clash s t ≡ false
-no_clash s Unstated n p q = refl
-no_clash Unstated (Stated b) n p q = refl
-no_clash (Stated a) (Stated b) n p q =
+pub no_clash : (s t : Option ℕ) (n : ℕ) → states_other s n ≡ false → states_other t n ≡ false → clash s t ≡ false
+no_clash s None n p q = refl
+no_clash None (Some b) n p q = refl
+no_clash (Some a) (Some b) n p q =
     let x = eqb-true a n (not-false _ p) in
     let y = eqb-true b n (not-false _ q) in
     ap not (eq-eqb a b (omega arith))
 
 -- the one that is taken over agrees
-pub still_states : (s t : MessageLength) (n : ℕ) → states_other s n ≡ false → states_other t n ≡ false → states_other (stated_of s t) n ≡ false
-still_states s Unstated n p q = p
-still_states s (Stated b) n p q = q
+pub still_states : (s t : Option ℕ) (n : ℕ) → states_other s n ≡ false → states_other t n ≡ false → states_other (stated_of s t) n ≡ false
+still_states s None n p q = p
+still_states s (Some b) n p q = q
 
 -- it is not above what n is within
-pub not_above : (s : MessageLength) (n m : ℕ) → states_other s n ≡ false → n ≤ m → states_above s m ≡ false
-not_above Unstated n m p h = refl
-not_above (Stated a) n m p h = let x = eqb-true a n (not-false _ p) in le-ltb m a (omega arith)
+pub not_above : (s : Option ℕ) (n m : ℕ) → states_other s n ≡ false → n ≤ m → states_above s m ≡ false
+not_above None n m p h = refl
+not_above (Some a) n m p h = let x = eqb-true a n (not-false _ p) in le-ltb m a (omega arith)
 
 -- and not below what is within n
-pub not_below : (s : MessageLength) (n m : ℕ) → states_other s n ≡ false → m ≤ n → states_below s m ≡ false
-not_below Unstated n m p h = refl
-not_below (Stated a) n m p h = let x = eqb-true a n (not-false _ p) in le-ltb a m (omega arith)
+pub not_below : (s : Option ℕ) (n m : ℕ) → states_other s n ≡ false → m ≤ n → states_below s m ≡ false
+not_below None n m p h = refl
+not_below (Some a) n m p h = let x = eqb-true a n (not-false _ p) in le-ltb a m (omega arith)
 
 -- ---- a deadline that is not due is not passed
 
 -- one that has not come is not past
-pub not_late : (d : Deadline) (now' : ℕ) → due d now' ≡ false → late d now' ≡ false
-not_late deadline.Off now' e = refl
-not_late (deadline.At t) now' e = let h = leb-false t now' e in le-ltb t now' (omega arith)
+pub not_late : (d : Option ℕ) (now' : ℕ) → due d now' ≡ false → late d now' ≡ false
+not_late None now' e = refl
+not_late (Some t) now' e = let h = leb-false t now' e in le-ltb t now' (omega arith)

@@ -1,8 +1,7 @@
 -- What a single call answers and leaves, on any record and store: when it answers Received, the store's length, the last reading, the terms.
-use Rattle.std.specs.Prelude.{ℕ, ◌+◌, ◌*◌, ◌≤◌, ◌≡◌, refl, ◌⊎◌, List, Bool, true, false, cond, ◌&&◌, length, eqb, leb}
+use Rattle.std.specs.Prelude.{ℕ, ◌+◌, ◌*◌, ◌≤◌, ◌≡◌, refl, ◌⊎◌, List, Bool, true, false, cond, ◌&&◌, length, eqb, leb, Option, Some, None}
 use Rattle.std.proofs.Common.{sym, ap, ◌∙◌, inl, inr, arith}
 use Rattle.std.proofs.lemmas.Bool.{false≢true}
-use Rattle.std.proofs.Math.Option.{Option, none, some}
 use Rattle.std.proofs.Math.Seq.{length-sets}
 use Rattle.octets.specs.Octets.{length_wiped}
 use Rattle.tsar.specs.Rows.{first_of, either}
@@ -14,7 +13,6 @@ use Rattle.response.specs.declared.Status.TheVariants as status
 use Rattle.response.specs.declared.Response.{Response}
 use Rattle.receiver.specs.declared.ReceiverState.{ReceiverState}
 use Rattle.receiver.specs.declared.ReceiverState.TheVariants.{AwaitingBegin, Receiving, Complete, Failed, Expired, Canceled}
-use Rattle.receiver.specs.declared.Deadline.TheVariants as deadline
 use Rattle.receiver.specs.declared.Terms.{Terms}
 use Rattle.receiver.specs.declared.Receiver.{Receiver}
 use Rattle.receiver.specs.declared.Reported.{Reported}
@@ -30,32 +28,32 @@ use Rattle.delivery.specs.Rules.{by_rules, by_receive, by_advance, by_cancel, by
 
 -- a response without its figures
 abbrev pub response_in : Option Reported → Option Response
-response_in none = none
-response_in (some x) = some x.response
+response_in None = None
+response_in (Some x) = Some x.response
 
 -- the response that an answer asks for
 abbrev pub responded : Answer → Option Response
-responded (refused n) = none
+responded (refused n) = None
 responded (answered x m) = response_in x
 
 -- a response, where there is one, has status s
 abbrev Has : Status → Option Reported → Type 0
-Has s none = Unit {0}
-Has s (some x) = x.response.status ≡ s
+Has s None = Unit {0}
+Has s (Some x) = x.response.status ≡ s
 
 -- a response has the status asked for
 respond_has : (r : Receiver) (s : Status) (next : Bool) → Has s (respond r s next)
-respond_has r s next = either (Has s) (prohibited r.progress.services.acknowledgment_window) none (some _) (λ e. tt) (λ e. refl)
+respond_has r s next = either (Has s) (prohibited r.progress.services.acknowledgment_window) None (Some _) (λ e. tt) (λ e. refl)
 
 -- so has one that a taken segment is due
 required_has : (r : Receiver) (x : Segment) (s : Status) → Has s (required_response r x s)
-required_has r x s = either (Has s) (required r x s) (respond r s false) none (λ e. respond_has r s false) (λ e. tt)
+required_has r x s = either (Has s) (required r x s) (respond r s false) None (λ e. respond_has r s false) (λ e. tt)
 
 -- a support list keeps the status
 listed_has : (b : Bool) (s : Status) (y : Option Reported) → Has s y → Has s (listed_in b y)
-listed_has b s none h = tt
-listed_has true s (some y) h = h
-listed_has false s (some y) h = h
+listed_has b s None h = tt
+listed_has true s (Some y) h = h
+listed_has false s (Some y) h = h
 
 -- the response to a failure has its status
 fail_has : (r : Receiver) (s : Status) → Has s (fail_response r s)
@@ -63,12 +61,12 @@ fail_has r s = listed_has (eqb (status_number s) 13 && leb 5 r.terms.version) s 
 
 -- a step answers Received only if it leaves Complete
 abbrev Tells : Step → Type 0
-Tells st = (x : Response) → responded st.answer ≡ some x → x.status ≡ status.Received → st.receiver.progress.state ≡ Complete
+Tells st = (x : Response) → responded st.answer ≡ Some x → x.status ≡ status.Received → st.receiver.progress.state ≡ Complete
 
 -- a response with another status
-other_status : {A : Type 0} (s : Status) (y : Option Reported) → Has s y → eqb (status_number s) 10 ≡ false → (x : Response) → response_in y ≡ some x → x.status ≡ status.Received → A
-other_status s none h n x e f = absurd (let z : ◌≡◌ {A = ℕ} 0 1 = cc in omega arith)
-other_status s (some y) h n x e f =
+other_status : {A : Type 0} (s : Status) (y : Option Reported) → Has s y → eqb (status_number s) 10 ≡ false → (x : Response) → response_in y ≡ Some x → x.status ≡ status.Received → A
+other_status s None h n x e f = absurd (let z : ◌≡◌ {A = ℕ} 0 1 = cc in omega arith)
+other_status s (Some y) h n x e f =
     let z : s ≡ status.Received = cc in
     absurd (false≢true (sym n ∙ ap (λ (u : Status). eqb (status_number u) 10) z))
 
@@ -90,14 +88,14 @@ module _ (interval : ℕ) (r : Receiver) (a : Arrival) (store o : List ℕ) wher
   repeated_tells : Tells (settle interval repeats r a store o)
   repeated_tells = go (complete r.progress.state) refl
     where
-      go : (b : Bool) → complete r.progress.state ≡ b → (x : Response) → response_in (required_response r a.segment (cond b status.Received status.Continuing)) ≡ some x → x.status ≡ status.Received → r.progress.state ≡ Complete
+      go : (b : Bool) → complete r.progress.state ≡ b → (x : Response) → response_in (required_response r a.segment (cond b status.Received status.Continuing)) ≡ Some x → x.status ≡ status.Received → r.progress.state ≡ Complete
       go true e x f g = is_complete r.progress.state e
       go false e x f g = other_status status.Continuing (required_response r a.segment status.Continuing) (required_has r a.segment status.Continuing) refl x f g
 
   -- a held segment does not
   kept_tells : Tells (settle interval keeps r a store o)
   kept_tells x =
-      let r' = kept r a Receiving (deadline.At (a.reading + interval)) in
+      let r' = kept r a Receiving (Some (a.reading + interval)) in
       other_status status.Continuing (required_response r' a.segment status.Continuing) (required_has r' a.segment status.Continuing) refl x
 
   -- so no segment does otherwise
@@ -108,7 +106,7 @@ module _ (interval : ℕ) (r : Receiver) (a : Arrival) (store o : List ℕ) wher
 
 -- a call answers a response with status Received only if it leaves the receiver Complete
 pub received_complete : (interval : ℕ) (r : Receiver) (store : List ℕ) (c : Call) (x : Response)
-    → responded (step_of interval r store c).answer ≡ some x → x.status ≡ status.Received → (step_of interval r store c).receiver.progress.state ≡ Complete
+    → responded (step_of interval r store c).answer ≡ Some x → x.status ≡ status.Received → (step_of interval r store c).receiver.progress.state ≡ Complete
 received_complete interval r store (receive a o) =
     by_receive Tells interval r a store o (λ n e x f. absurd (let z : ◌≡◌ {A = ℕ} 0 1 = cc in omega arith)) (λ A x f. absurd (let z : ◌≡◌ {A = ℕ} 0 1 = cc in omega arith))
     (λ x f. absurd (let z : ◌≡◌ {A = ℕ} 0 1 = cc in omega arith)) (λ A. settled_tells interval r a store o)

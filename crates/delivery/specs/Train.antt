@@ -1,10 +1,9 @@
 -- The segments of a train in the receiver's words: their kinds, services and lengths, and what the accepted ones among them add up to.
 use Prim.Native.Nat.{ℕ, zero, suc, ◌+◌, ◌-◌, ◌≤◌, ◌<◌}
-use Rattle.std.specs.Prelude.{◌≡◌, true, false, not, ◌&&◌, ◌||◌, length}
+use Rattle.std.specs.Prelude.{◌≡◌, true, false, not, ◌&&◌, ◌||◌, length, Option, Some, None}
 use Rattle.std.proofs.Math.Path.{refl, ap₂}
 use Rattle.std.proofs.Common.{sym, ap, ◌∙◌, subst, arith, length-append, eq-eqb, ne_eqb}
 use mathlib.Core.List.{List, ◌∷◌, ◌++◌}
-use Rattle.std.proofs.Math.Option.{Option, none, some}
 use Rattle.std.proofs.Math.Decide.{ℕ_discrete}
 use Rattle.tsar.specs.Rows.{refusal}
 use Rattle.tsar.specs.Layout.{WholeSegment}
@@ -15,7 +14,6 @@ use Rattle.tsar.specs.declared.Compression.TheVariants as compression
 use Rattle.tsar.specs.declared.CrcStatus.{CrcStatus}
 use Rattle.tsar.specs.declared.CrcStatus.TheVariants as status
 use Rattle.tsar.specs.declared.OptionalServices.{OptionalServices}
-use Rattle.tsar.specs.declared.Services.TheVariants as optional
 use Rattle.tsar.specs.declared.MessageCrc.TheVariants as crc
 use Rattle.tsar.specs.declared.Segment.{Segment}
 use Rattle.tsar.specs.declared.SegmentKind.{SegmentKind}
@@ -50,8 +48,8 @@ end_no_continue (End n c) e = refl
 -- a plain Begin asks for services that are served
 plain_served : (old : OptionalServices) (k : SegmentKind) → plain_kind k ≡ true
     → (is_begin k && (compresses (services_of old k).compression || selects_crc (services_of old k).crc_status)) ≡ false
-plain_served old (Begin n optional.Absent) e = refl
-plain_served old (Begin n (optional.SpelledOut s)) e = go s.compression s.crc_status e
+plain_served old (Begin n None) e = refl
+plain_served old (Begin n (Some s)) e = go s.compression s.crc_status e
   where
     go : (c : Compression) (d : CrcStatus) → (not (compresses c) && not (selects_crc d)) ≡ true → (compresses c || selects_crc d) ≡ false
     go compression.None status.None p = refl
@@ -65,9 +63,9 @@ plain_served old (End n c) e = refl
 plain_no_crc : (k : SegmentKind) → plain_kind k ≡ true → has_crc (crc_in k) ≡ false
 plain_no_crc (Begin n s) e = refl
 plain_no_crc (Continue n) e = refl
-plain_no_crc (End n crc.Absent) e = refl
-plain_no_crc (End n (crc.Crc16 v)) e = sym e
-plain_no_crc (End n (crc.Crc24 v)) e = sym e
+plain_no_crc (End n None) e = refl
+plain_no_crc (End n (Some (crc.Crc16 v))) e = sym e
+plain_no_crc (End n (Some (crc.Crc24 v))) e = sym e
 
 -- ---- the segments of a cutting
 
@@ -115,7 +113,7 @@ pub record Is (y x : WholeSegment) : Type 0 where
 
 -- each accepted segment is the train's, by its number
 abbrev pub OfTrain : ℕ → (ℕ → WholeSegment) → List WholeSegment → Type 0
-OfTrain count segment acc = (s : ℕ) (x : WholeSegment) → find s acc ≡ some x → (s < count) × Is (segment s) x
+OfTrain count segment acc = (s : ℕ) (x : WholeSegment) → find s acc ≡ Some x → (s < count) × Is (segment s) x
 
 -- the octets of the accepted segment i
 abbrev pub octets_at : List WholeSegment → ℕ → ℕ
@@ -128,7 +126,7 @@ length_join zero f = refl
 length_join (suc n) f = length-append (join_to n f) (f n) ∙ ap (λ (k : ℕ). k + length (f n)) (length_join n f)
 
 -- one more accepted segment adds its octets
-pub octets_grown : (count : ℕ) (x : WholeSegment) (acc : List WholeSegment) (i : ℕ) → i < count → x.sequence_number ≡ i → find i acc ≡ none
+pub octets_grown : (count : ℕ) (x : WholeSegment) (acc : List WholeSegment) (i : ℕ) → i < count → x.sequence_number ≡ i → find i acc ≡ None
     → sum_to count (octets_at (x ∷ acc)) ≡ sum_to count (octets_at acc) + length x.segment_data
 octets_grown count x acc i h e f =
     sum_to_grown count i (length x.segment_data) (octets_at acc) (octets_at (x ∷ acc)) h
@@ -143,8 +141,8 @@ module _ {message : List ℕ} {transaction count : ℕ} {segment : ℕ → Whole
   module _ (acc : List WholeSegment) (has : OfTrain count segment acc) where
     -- an accepted segment has the train's octets, one that is not there none
     octets_in : (i : ℕ) (o : Option WholeSegment) → find i acc ≡ o → length (data_of o) ≤ length (segment i).segment_data
-    octets_in i none e = omega arith
-    octets_in i (some x) e = omega (arith, ap length (has i x e).1.same_data)
+    octets_in i None e = omega arith
+    octets_in i (Some x) e = omega (arith, ap length (has i x e).1.same_data)
 
     -- accepted segments of a train have at most the message's octets
     pub octets_below : sum_to count (octets_at acc) ≤ length message
@@ -198,7 +196,7 @@ pub record Train : Type 0 where
   pub count : ℕ
   pub segment : ℕ → WholeSegment
   pub cutting : Cutting message terms.transaction_id count segment
-  pub codec : (i : ℕ) → i < count → refusal (codec_rows terms.version (head_of (segment i)) (length (segment i).segment_data)) ≡ none
+  pub codec : (i : ℕ) → i < count → refusal (codec_rows terms.version (head_of (segment i)) (length (segment i).segment_data)) ≡ None
   pub fits : length message ≤ terms.maximum_message_octets
 
 -- the number of its End

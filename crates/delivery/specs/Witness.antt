@@ -4,8 +4,7 @@
 use Prim.Native.Nat.{ℕ, zero, suc, ◌^◌, ◌≤◌, ◌<◌}
 use Rattle.std.proofs.Math.Path.{◌≡◌, refl}
 use Rattle.std.proofs.Common.{inl, inr, lit≤}
-use Rattle.std.specs.Prelude.{List, [], ◌∷◌, ◌++◌, Bool, true, false, replicate, length}
-use Rattle.std.proofs.Math.Option.{none, some}
+use Rattle.std.specs.Prelude.{List, [], ◌∷◌, ◌++◌, Bool, true, false, replicate, length, Some, None}
 use native.Mathlib.Omega.{arith}
 use Rattle.std.proofs.lemmas.List.{length-replicate}
 use Rattle.octets.specs.Octets.{wiped_to, same_octets}
@@ -54,11 +53,11 @@ pub room : store_octets ≤ length store₀
 room = omega (arith, length-replicate {A = ℕ} 65280 165)
 
 -- try_new makes a receiver of it
-pub new_made : (try_new_of terms₀ 0).refused ≡ none
+pub new_made : (try_new_of terms₀ 0).refused ≡ None
 unfolding try_new_of known_profile
 new_made = refl
 
-pub new_made_2 : (try_new_of (terms_of 2) 0).refused ≡ none
+pub new_made_2 : (try_new_of (terms_of 2) 0).refused ≡ None
 unfolding try_new_of known_profile
 new_made_2 = refl
 
@@ -319,7 +318,7 @@ unfolding known_profile receiver_interval try_new_of receive_of advance_of relea
 slow_expired = refl
 
 -- a receiver of which the second half holds, and which try_new makes
-module _ (interval : Terms → ℕ) (long : 4 < interval terms₀) (short : interval terms₀ ≤ 2 ^ 63) (new : TryNewFunction) (made : (new terms₀ 0).refused ≡ none) (step : StepFunction) (p : SecondHalf interval new step) where
+module _ (interval : Terms → ℕ) (long : 4 < interval terms₀) (short : interval terms₀ ≤ 2 ^ 63) (new : TryNewFunction) (made : (new terms₀ 0).refused ≡ None) (step : StepFunction) (p : SecondHalf interval new step) where
   -- hands the message over with the last call
   pub must : HandsOver (last_step window.Prohibited true new step) text
   must =
@@ -333,13 +332,13 @@ module _ (interval : Terms → ℕ) (long : 4 < interval terms₀) (short : inte
       (met window.Every4 false 1 (interval terms₀) long short)).when (all_come window.Every4 false) (not_earlier window.Every4 false)
 
   -- and hands nothing over with a release after it
-  pub not_released : (k : ℕ) → carried (step_after step (after step (start (new terms₀ 0).receiver store₀) (whole window.Prohibited true)) (release 10)).answer ≡ some k → ⊥
+  pub not_released : (k : ℕ) → carried (step_after step (after step (start (new terms₀ 0).receiver store₀) (whole window.Prohibited true)) (release 10)).answer ≡ Some k → ⊥
   not_released k e =
       ((p terms₀ 0 made store₀ text 3 (train_of (plan₀ window.Prohibited true) text) (by_plan 6 100 window.Prohibited (plan₀ window.Prohibited true) planned) (lit≤ tt) room (whole window.Prohibited true) (release 10)
       (met_released window.Prohibited true (interval terms₀) long short)).only_when k e).1 (all_come window.Prohibited true)
 
   -- nor with the first call, the Begin
-  pub not_first : (k : ℕ) → carried (step (new terms₀ 0).receiver store₀ (bring window.Prohibited true 0 5)).answer ≡ some k → ⊥
+  pub not_first : (k : ℕ) → carried (step (new terms₀ 0).receiver store₀ (bring window.Prohibited true 0 5)).answer ≡ Some k → ⊥
   not_first k e =
       begin_alone window.Prohibited true
       (((p terms₀ 0 made store₀ text 3 (train_of (plan₀ window.Prohibited true) text) (by_plan 6 100 window.Prohibited (plan₀ window.Prohibited true) planned) (lit≤ tt) room [] (bring window.Prohibited true 0 5)
@@ -347,7 +346,7 @@ module _ (interval : Terms → ℕ) (long : 4 < interval terms₀) (short : inte
 
 -- and with an interval above 200 s, the message whose last segment comes then
 pub must_slow : (profile : ℕ) (interval : Terms → ℕ) → 200000 < interval (terms_of profile) → interval (terms_of profile) ≤ 2 ^ 63
-    → (new : TryNewFunction) → (new (terms_of profile) 0).refused ≡ none → (step : StepFunction) → SecondHalf interval new step → HandsOver (slow_step profile new step) text
+    → (new : TryNewFunction) → (new (terms_of profile) 0).refused ≡ None → (step : StepFunction) → SecondHalf interval new step → HandsOver (slow_step profile new step) text
 must_slow profile interval over short new made step p =
     (p (terms_of profile) 0 made store₀ text 3 (train_of (plan₀ window.Prohibited true) text) (by_plan 6 100 window.Prohibited (plan₀ window.Prohibited true) planned) (lit≤ tt) room (slow_earlier window.Prohibited true) (slow_call window.Prohibited true)
     (slow_met window.Prohibited true profile (interval (terms_of profile)) over short)).when (slow_come window.Prohibited true) (slow_not_earlier window.Prohibited true)

@@ -2,7 +2,7 @@
 use Prim.Native.Nat.{ℕ}
 use mathlib.Core.Path.{◌≡◌, refl, sym, ap, ◌∙◌}
 use mathlib.Core.Bool.{cond}
-use mathlib.Core.Option.{Option, none, some}
+use Rattle.std.specs.Prelude.{Option, Result, Some, None, Ok, Err}
 use lib.Dec.{eqb}
 use Rattle.tsar.specs.Rows.{Refusal}
 use Rattle.tsar.specs.Numbers.{field_number, number}
@@ -14,11 +14,8 @@ use Rattle.segmentation.specs.Frozen.{Checked}
 use Rattle.segmentation.specs.declared.PlanningError.TheVariants as planning
 use Rattle.dialect.specs.declared.ConvertError.{ConvertError}
 use Rattle.dialect.specs.declared.ConvertError.TheVariants as error
-use Rattle.dialect.specs.declared.ConvertAnswer.{ConvertAnswer}
-use Rattle.dialect.specs.declared.ConvertAnswer.TheVariants as answered
-use Rattle.dialect.specs.declared.Conversion.{Conversion}
 use Rattle.dialect.specs.Numbers.{convert_number}
-use Rattle.dialect.specs.Convert.{refused_by, converted_by}
+use Rattle.dialect.specs.Convert.{refused_by, Conversion, converted_by}
 use Rattle.dialect.specs.Statement.{OneAnswer}
 
 -- ---- from the number back
@@ -52,9 +49,9 @@ error_of r =
     (cond (eqb r.0 25) (error.Planning planning.ExceptionsWindow)
     (cond (eqb r.0 26) error.OtherPattern (error.Planning (planning.Codec (codec_of r)))))))))
 
-abbrev answer_of : Option Refusal → ConvertAnswer
-answer_of none = answered.Converted
-answer_of (some r) = answered.Refused (error_of r)
+abbrev answer_of : Option Refusal → Result Unit ConvertError
+answer_of None = (Ok tt)
+answer_of (Some r) = Err (error_of r)
 
 -- ---- it is the answer that was given
 
@@ -87,9 +84,9 @@ error_of_lem (error.Planning planning.ExceptionsWindow) = refl
 error_of_lem (error.Planning (planning.Codec e)) = codec_of_lem e
 error_of_lem error.OtherPattern = refl
 
-answer_of_lem : (a : ConvertAnswer) → answer_of (refused_by a) ≡ a
-answer_of_lem answered.Converted = refl
-answer_of_lem (answered.Refused e) = ap {B = ConvertAnswer} answered.Refused (error_of_lem e)
+answer_of_lem : (a : Result Unit ConvertError) → answer_of (refused_by a) ≡ a
+answer_of_lem (Ok tt) = refl
+answer_of_lem (Err e) = ap {B = Result Unit ConvertError} Err (error_of_lem e)
 
 abbrev conversion_of : Checked → Conversion
 conversion_of c = record { answer = answer_of c.refused; plan = c.plan }

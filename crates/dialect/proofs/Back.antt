@@ -7,8 +7,7 @@ use native.Mathlib.Omega.{arith}
 use lib.ListN.{length, take, replicate}
 use borrow.Author.Tests.{eqb-true, not-false}
 use Rattle.tsar.specs.Writing.{length_in}
-use Rattle.tsar.specs.declared.MessageLength.{MessageLength}
-use Rattle.tsar.specs.declared.MessageLength.TheVariants as len
+use Rattle.std.specs.Prelude.{Option, Some, None}
 use Rattle.tsar.specs.declared.SegmentKind.{SegmentKind}
 use Rattle.tsar.specs.declared.SegmentHead.{SegmentHead}
 use Rattle.segmentation.specs.Cutting.{states_other}
@@ -22,19 +21,19 @@ use Rattle.dialect.proofs.Converted.{own_length, twice}
 pub length_is : (d : Dialect) (n : ℕ) (h : SegmentHead) → later_fits d h ≡ true → states_other (length_in h.segment.kind) n ≡ false → length_for d n ≡ length_in h.segment.kind
 length_is BeginOnly n h = go (length_in h.segment.kind)
   where
-    go : (l : MessageLength) → not (is_stated l) ≡ true → states_other l n ≡ false → len.Unstated ≡ l
-    go len.Unstated a b = refl
-    go (len.Stated m) a b = absurd (true≢false (sym a))
+    go : (l : Option ℕ) → not (is_stated l) ≡ true → states_other l n ≡ false → None ≡ l
+    go None a b = refl
+    go (Some m) a b = absurd (true≢false (sym a))
 length_is Every n h = go (length_in h.segment.kind)
   where
-    go : (l : MessageLength) → is_stated l ≡ true → states_other l n ≡ false → len.Stated n ≡ l
-    go len.Unstated a b = absurd (true≢false (sym a))
-    go (len.Stated m) a b = ap {B = MessageLength} len.Stated (sym (eqb-true m n (not-false _ b)))
+    go : (l : Option ℕ) → is_stated l ≡ true → states_other l n ≡ false → Some n ≡ l
+    go None a b = absurd (true≢false (sym a))
+    go (Some m) a b = ap {B = Option ℕ} Some (sym (eqb-true m n (not-false _ b)))
 
 back : (d e : Dialect) (n : ℕ) (h : SegmentHead) → length_for d n ≡ length_in h.segment.kind → restated d n (restated e n h) ≡ h
 back d e n h p =
     let k : SegmentKind = h.segment.kind in
-    let g : with_length (length_for d n) (with_length (length_for e n) k) ≡ k = twice (length_for d n) (length_for e n) k ∙ ap (λ (l : MessageLength). with_length l k) p ∙ own_length k in
+    let g : with_length (length_for d n) (with_length (length_for e n) k) ≡ k = twice (length_for d n) (length_for e n) k ∙ ap (λ (l : Option ℕ). with_length l k) p ∙ own_length k in
     λ i.
     record {
       segment = record { transaction_id = h.segment.transaction_id; sequence_number = h.segment.sequence_number; kind = g i };

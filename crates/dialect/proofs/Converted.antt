@@ -4,7 +4,7 @@ use mathlib.Core.Path.{◌≡◌, refl, sym, ap, ap₂, ◌∙◌, subst}
 use mathlib.Core.Logic.{⊎_elim}
 use mathlib.Core.Bool.{Bool, true, false, not, ◌||◌, true≢false}
 use mathlib.Core.List.{List, [], ◌∷◌}
-use mathlib.Core.Option.{none}
+use Rattle.std.specs.Prelude.{Option, Some, None}
 use native.Mathlib.Omega.{arith}
 use lib.ListN.{length, take, drop}
 use borrow.Author.Tests.{ltb-false, eqb-true, not-false, le-ltb}
@@ -13,8 +13,6 @@ use Rattle.tsar.specs.Rows.{refusal, refusal_none, refusal_pass}
 use Rattle.tsar.specs.Writing.{codec_rows, header_octets, length_in, crc_in, too_long, crc_too_large}
 use Rattle.tsar.specs.Layout.{type_of}
 use Rattle.tsar.specs.Reading.{begin_test}
-use Rattle.tsar.specs.declared.MessageLength.{MessageLength}
-use Rattle.tsar.specs.declared.MessageLength.TheVariants as len
 use Rattle.tsar.specs.declared.SegmentKind.{SegmentKind}
 use Rattle.tsar.specs.declared.SegmentKind.TheVariants as kind'
 use Rattle.tsar.specs.declared.SegmentHead.{SegmentHead}
@@ -48,32 +46,32 @@ heads_at d n count (x ∷ l) (suc i) h b = later_at d n (count - 1) l i (omega a
 
 -- ---- what stays of a kind
 
-pub same_type : (l : MessageLength) (k : SegmentKind) → type_of (with_length l k) ≡ type_of k
+pub same_type : (l : Option ℕ) (k : SegmentKind) → type_of (with_length l k) ≡ type_of k
 same_type l (kind'.Begin n s) = refl
 same_type l (kind'.Continue n) = refl
 same_type l (kind'.End n c) = refl
 
-pub same_crc_lem : (l : MessageLength) (k : SegmentKind) → crc_in (with_length l k) ≡ crc_in k
+pub same_crc_lem : (l : Option ℕ) (k : SegmentKind) → crc_in (with_length l k) ≡ crc_in k
 same_crc_lem l (kind'.Begin n s) = refl
 same_crc_lem l (kind'.Continue n) = refl
 same_crc_lem l (kind'.End n c) = refl
 
-pub the_length : (l : MessageLength) (k : SegmentKind) → length_in (with_length l k) ≡ l
+pub the_length : (l : Option ℕ) (k : SegmentKind) → length_in (with_length l k) ≡ l
 the_length l (kind'.Begin n s) = refl
 the_length l (kind'.Continue n) = refl
 the_length l (kind'.End n c) = refl
 
-same_continue : (l : MessageLength) (k : SegmentKind) → is_continue (with_length l k) ≡ is_continue k
+same_continue : (l : Option ℕ) (k : SegmentKind) → is_continue (with_length l k) ≡ is_continue k
 same_continue l (kind'.Begin n s) = refl
 same_continue l (kind'.Continue n) = refl
 same_continue l (kind'.End n c) = refl
 
-same_end : (l : MessageLength) (k : SegmentKind) → is_end (with_length l k) ≡ is_end k
+same_end : (l : Option ℕ) (k : SegmentKind) → is_end (with_length l k) ≡ is_end k
 same_end l (kind'.Begin n s) = refl
 same_end l (kind'.Continue n) = refl
 same_end l (kind'.End n c) = refl
 
-same_plain : (l : MessageLength) (k : SegmentKind) → plain_kind (with_length l k) ≡ plain_kind k
+same_plain : (l : Option ℕ) (k : SegmentKind) → plain_kind (with_length l k) ≡ plain_kind k
 same_plain l (kind'.Begin n s) = refl
 same_plain l (kind'.Continue n) = refl
 same_plain l (kind'.End n c) = refl
@@ -84,7 +82,7 @@ own_length (kind'.Begin n s) = refl
 own_length (kind'.Continue n) = refl
 own_length (kind'.End n c) = refl
 
-pub twice : (l m : MessageLength) (k : SegmentKind) → with_length l (with_length m k) ≡ with_length l k
+pub twice : (l m : Option ℕ) (k : SegmentKind) → with_length l (with_length m k) ≡ with_length l k
 twice l m (kind'.Begin n s) = refl
 twice l m (kind'.Continue n) = refl
 twice l m (kind'.End n c) = refl
@@ -108,7 +106,7 @@ none_passes budget heads (suc k) e i h =
     or_false true y e = absurd (true≢false e)
     or_false false y e = (refl, e)
 
-module _ (d : Dialect) (q : Proposal) (ok : frozen_refusal q ≡ none) (room : q.count ≤ length q.heads) (stated : states (head_at q.heads 0) ≡ true) where
+module _ (d : Dialect) (q : Proposal) (ok : frozen_refusal q ≡ None) (room : q.count ≤ length q.heads) (stated : states (head_at q.heads 0) ≡ true) where
   abbrev n : ℕ
   n = length q.message
 
@@ -128,9 +126,9 @@ module _ (d : Dialect) (q : Proposal) (ok : frozen_refusal q ≡ none) (room : q
   pub not_long : n ≤ 4095
   not_long = go (length_in (head_at q.heads 0).segment.kind) stated (c.states 0 (omega (arith, c.at_least))) (refusal_none (codec_rows q.version (head_at q.heads 0).segment (head_at q.heads 0).segment_data_length) (a.codec 0 (omega (arith, c.at_least))) 4)
     where
-      go : (l : MessageLength) → is_stated l ≡ true → states_other l n ≡ false → too_long l ≡ false → n ≤ 4095
-      go len.Unstated e f g = absurd (true≢false (sym e))
-      go (len.Stated m) e f g = let x = eqb-true m n (not-false _ f) in omega (arith, x, ltb-false 4095 m g)
+      go : (l : Option ℕ) → is_stated l ≡ true → states_other l n ≡ false → too_long l ≡ false → n ≤ 4095
+      go None e f g = absurd (true≢false (sym e))
+      go (Some m) e f g = let x = eqb-true m n (not-false _ f) in omega (arith, x, ltb-false 4095 m g)
 
   fine_length : too_long (length_for d n) ≡ false
   fine_length = go d
@@ -169,7 +167,7 @@ module _ (d : Dialect) (q : Proposal) (ok : frozen_refusal q ≡ none) (room : q
         ends = λ i h. each_head (λ x. is_end x.segment.kind ≡ true) i (omega arith) (c.ends i h) (λ _. same_end (length_for d n) (head_at q.heads i).segment.kind ∙ c.ends i h);
         plain = λ i h. each_head (λ x. plain_kind x.segment.kind ≡ true) i h (c.plain i h) (λ _. same_plain (length_for d n) (head_at q.heads i).segment.kind ∙ c.plain i h);
         short = λ i h. let e = ap length (same_data i h) in omega (arith, e, c.short i h);
-        states = λ i h. each_head (λ x. states_other (length_in x.segment.kind) n ≡ false) i h (c.states i h) (λ _. ap (λ (l : MessageLength). states_other l n) (the_length (length_for d n) (head_at q.heads i).segment.kind) ∙ own d);
+        states = λ i h. each_head (λ x. states_other (length_in x.segment.kind) n ≡ false) i h (c.states i h) (λ _. ap (λ (l : Option ℕ). states_other l n) (the_length (length_for d n) (head_at q.heads i).segment.kind) ∙ own d);
         makes = join_cong q.count (λ i. (proposed (with_heads q heads') i).segment_data) (λ i. (proposed q i).segment_data) same_data ∙ c.makes;
       }
     where
@@ -177,9 +175,9 @@ module _ (d : Dialect) (q : Proposal) (ok : frozen_refusal q ≡ none) (room : q
       own BeginOnly = refl
       own Every = ap not (borrow.Author.Tests.eq-eqb n n refl)
 
-  still_codec : (i : ℕ) → i < q.count → refusal (codec_rows q.version (head_at heads' i).segment (head_at heads' i).segment_data_length) ≡ none
+  still_codec : (i : ℕ) → i < q.count → refusal (codec_rows q.version (head_at heads' i).segment (head_at heads' i).segment_data_length) ≡ None
   still_codec i h =
-      each_head (λ x. refusal (codec_rows q.version x.segment x.segment_data_length) ≡ none) i h (a.codec i h)
+      each_head (λ x. refusal (codec_rows q.version x.segment x.segment_data_length) ≡ None) i h (a.codec i h)
       (λ _.
       let t = refusal_none (codec_rows q.version (head_at q.heads i).segment (head_at q.heads i).segment_data_length) (a.codec i h) in
       let k : SegmentKind = (head_at q.heads i).segment.kind in
@@ -187,7 +185,7 @@ module _ (d : Dialect) (q : Proposal) (ok : frozen_refusal q ≡ none) (room : q
       (t 0, (t 1, (t 2, (ap (λ y. begin_test y (head_at q.heads i).segment.sequence_number) (same_type (length_for d n) k) ∙ t 3, (ap too_long (the_length (length_for d n) k) ∙ fine_length, (ap crc_too_large (same_crc_lem (length_for d n) k) ∙ t 5, tt)))))))
 
   -- so what is within the budget passes the frozen check
-  pub still_frozen : passes_budget q.budget heads' q.count ≡ false → frozen_refusal (with_heads q heads') ≡ none
+  pub still_frozen : passes_budget q.budget heads' q.count ≡ false → frozen_refusal (with_heads q heads') ≡ None
   still_frozen e =
       cutting_accepted (with_heads q heads') (record {
         within_ceiling = a.within_ceiling;

@@ -2,12 +2,10 @@
 use Prim.Native.Nat.{ℕ, zero, suc, ◌-◌, ◌<◌}
 use mathlib.Core.Path.{◌≡◌, refl, sym, ap, ◌∙◌}
 use mathlib.Core.Bool.{true, false, not, true≢false}
-use mathlib.Core.Option.{none}
+use Rattle.std.specs.Prelude.{Option, Some, None}
 use native.Mathlib.Omega.{arith}
 use lib.ListN.{length}
 use borrow.Author.Tests.{eqb-true, not-false}
-use Rattle.tsar.specs.declared.MessageLength.{MessageLength}
-use Rattle.tsar.specs.declared.MessageLength.TheVariants.{Unstated, Stated}
 use Rattle.tsar.specs.declared.SegmentHead.{SegmentHead}
 use Rattle.tsar.specs.Writing.{length_in}
 use Rattle.segmentation.specs.Cutting.{states_other}
@@ -23,13 +21,13 @@ use Rattle.dialect.proofs.Pattern.{both_true, and_true, later_each, later_all}
 -- ---- what is stated
 
 -- no length is stated and unstated
-pub unstated_only : {l : MessageLength} {n : ℕ} → Unstated ≡ l → l ≡ Stated n → ⊥
+pub unstated_only : {l : Option ℕ} {n : ℕ} → None ≡ l → l ≡ Some n → ⊥
 unstated_only e f = true≢false (sym (ap is_stated f) ∙ sym (ap is_stated e))
 
 -- a length that is stated, where no other may be, is the message's
-pub states_it : (l : MessageLength) (n : ℕ) → is_stated l ≡ true → states_other l n ≡ false → l ≡ Stated n
-states_it Unstated n e f = absurd (true≢false (sym e))
-states_it (Stated m) n e f = ap {B = MessageLength} Stated (eqb-true m n (not-false _ f))
+pub states_it : (l : Option ℕ) (n : ℕ) → is_stated l ≡ true → states_other l n ≡ false → l ≡ Some n
+states_it None n e f = absurd (true≢false (sym e))
+states_it (Some m) n e f = ap {B = Option ℕ} Some (eqb-true m n (not-false _ f))
 
 pub stated_later : (d : Dialect) (n i : ℕ) → length_for d n ≡ stated_at d n (suc i)
 stated_later BeginOnly n i = refl
@@ -37,12 +35,12 @@ stated_later Every n i = refl
 
 later_fits_lem : (d : Dialect) (n i : ℕ) (h : SegmentHead) → 0 < i → length_in h.segment.kind ≡ stated_at d n i → later_fits d h ≡ true
 later_fits_lem d n zero h a e = absurd (omega arith)
-later_fits_lem BeginOnly n (suc i) h a e = ap (λ (l : MessageLength). not (is_stated l)) e
+later_fits_lem BeginOnly n (suc i) h a e = ap (λ (l : Option ℕ). not (is_stated l)) e
 later_fits_lem Every n (suc i) h a e = ap is_stated e
 
 -- ---- a train in a dialect
 
-pub in_to : (d : Dialect) (q : Proposal) → frozen_refusal q ≡ none → in_dialect d q.heads q.count ≡ true → InDialect d q
+pub in_to : (d : Dialect) (q : Proposal) → frozen_refusal q ≡ None → in_dialect d q.heads q.count ≡ true → InDialect d q
 in_to d q ok e = go
   where
     fit : (states (head_at q.heads 0) ≡ true) × (later_in d q.heads (q.count - 1) ≡ true)
@@ -61,10 +59,10 @@ in_from d q h p =
 
 -- ---- trains that are in none, or in the other
 
-pub begin_not : (d : Dialect) (q : Proposal) → 0 < q.count → length_at q 0 ≡ Unstated → InDialect d q → ⊥
+pub begin_not : (d : Dialect) (q : Proposal) → 0 < q.count → length_at q 0 ≡ None → InDialect d q → ⊥
 begin_not d q h e p = unstated_only (sym e) (p 0 h)
 
-pub mixed_not : (d : Dialect) (q : Proposal) (i j m : ℕ) → 0 < i → i < q.count → length_at q i ≡ Unstated → 0 < j → j < q.count → length_at q j ≡ Stated m → InDialect d q → ⊥
+pub mixed_not : (d : Dialect) (q : Proposal) (i j m : ℕ) → 0 < i → i < q.count → length_at q i ≡ None → 0 < j → j < q.count → length_at q j ≡ Some m → InDialect d q → ⊥
 mixed_not d q zero j m a b e a' b' e' p = absurd (omega arith)
 mixed_not d q (suc i) zero m a b e a' b' e' p = absurd (omega arith)
 mixed_not BeginOnly q (suc i) (suc j) m a b e a' b' e' p = unstated_only (sym (p (suc j) b')) e'

@@ -2,14 +2,10 @@
 use Prim.Native.Nat.{ℕ}
 use mathlib.Core.Path.{◌≡◌, refl}
 use mathlib.Core.List.{List, [], ◌∷◌}
-use mathlib.Core.Option.{none, some}
+use Rattle.std.specs.Prelude.{Option, Some, None}
 use native.Mathlib.Omega.{arith}
 use Rattle.octets.specs.Octets.{same_octets}
 use Rattle.tsar.specs.Writing.{header_octets}
-use Rattle.tsar.specs.declared.MessageLength.{MessageLength}
-use Rattle.tsar.specs.declared.MessageLength.TheVariants as len
-use Rattle.tsar.specs.declared.MessageCrc.TheVariants as crc
-use Rattle.tsar.specs.declared.Services.TheVariants as optional
 use Rattle.tsar.specs.declared.SegmentKind.{SegmentKind}
 use Rattle.tsar.specs.declared.SegmentKind.TheVariants as kind'
 use Rattle.tsar.specs.declared.SegmentHead.{SegmentHead}
@@ -22,8 +18,8 @@ abbrev head : ℕ → SegmentKind → ℕ → SegmentHead
 head i k octets = record { segment = record { transaction_id = 5; sequence_number = i; kind = k }; segment_data_length = octets }
 
 -- what each of the three states, and how many octets it has
-abbrev train : MessageLength → MessageLength → MessageLength → ℕ → ℕ → ℕ → List SegmentHead
-train a b c x y z = head 0 (kind'.Begin a optional.Absent) x ∷ head 1 (kind'.Continue b) y ∷ head 2 (kind'.End c crc.Absent) z ∷ []
+abbrev train : Option ℕ → Option ℕ → Option ℕ → ℕ → ℕ → ℕ → List SegmentHead
+train a b c x y z = head 0 (kind'.Begin a None) x ∷ head 1 (kind'.Continue b) y ∷ head 2 (kind'.End c None) z ∷ []
 
 abbrev octets : List ℕ
 octets = 1 ∷ 2 ∷ 3 ∷ 4 ∷ 5 ∷ 6 ∷ 7 ∷ 8 ∷ 9 ∷ 10 ∷ 11 ∷ 12 ∷ 13 ∷ 14 ∷ []
@@ -31,17 +27,17 @@ octets = 1 ∷ 2 ∷ 3 ∷ 4 ∷ 5 ∷ 6 ∷ 7 ∷ 8 ∷ 9 ∷ 10 ∷ 11 ∷ 12 
 abbrev of : List SegmentHead → ℕ → Proposal
 of heads budget = record { heads = heads; count = 3; joined = octets; message = octets; budget = budget; version = 1; ceiling = 200 }
 
-abbrev it : MessageLength
-it = len.Stated 14
+abbrev it : Option ℕ
+it = Some 14
 
-abbrev not_it : MessageLength
-not_it = len.Unstated
+abbrev not_it : Option ℕ
+not_it = None
 
 -- there and back, plan by plan
 abbrev Both : Type 0
 Both =
-    (convert_of BeginOnly (of (train it not_it not_it 3 6 5) 11) ≡ record { refused = none; plan = frozen_of (of (train it it it 3 6 5) 11) })
-    × (convert_of Every (of (train it it it 3 6 5) 11) ≡ record { refused = none; plan = frozen_of (of (train it not_it not_it 3 6 5) 11) })
+    (convert_of BeginOnly (of (train it not_it not_it 3 6 5) 11) ≡ record { refused = None; plan = frozen_of (of (train it it it 3 6 5) 11) })
+    × (convert_of Every (of (train it it it 3 6 5) 11) ≡ record { refused = None; plan = frozen_of (of (train it not_it not_it 3 6 5) 11) })
 
 both : Both
 unfolding convert_of convert_refusal frozen_refusal segments_from data_before header_octets same_octets later_in restate_later passes_budget kept_heads
@@ -50,22 +46,22 @@ both = (refl, refl)
 -- 20 by the Continue alone, by the End alone, and one octet more; 26 for every other pattern, both ways; 26 before 20; the check before 26
 abbrev Refusals : Type 0
 Refusals =
-    (convert_refusal BeginOnly (of (train it not_it not_it 3 6 5) 10) ≡ some (20, 0))
-    × (convert_refusal BeginOnly (of (train it not_it not_it 3 4 7) 11) ≡ some (20, 0))
-    × (convert_refusal BeginOnly (of (train it not_it not_it 3 4 7) 12) ≡ none)
-    × (convert_refusal BeginOnly (of (train not_it not_it not_it 3 6 5) 11) ≡ some (26, 0))
-    × (convert_refusal Every (of (train not_it not_it not_it 3 6 5) 11) ≡ some (26, 0))
-    × (convert_refusal BeginOnly (of (train it not_it it 3 6 5) 11) ≡ some (26, 0))
-    × (convert_refusal Every (of (train it not_it it 3 6 5) 11) ≡ some (26, 0))
-    × (convert_refusal BeginOnly (of (train it it not_it 3 6 5) 11) ≡ some (26, 0))
-    × (convert_refusal Every (of (train it it not_it 3 6 5) 11) ≡ some (26, 0))
-    × (convert_refusal BeginOnly (of (train not_it it it 3 6 5) 11) ≡ some (26, 0))
-    × (convert_refusal Every (of (train not_it it it 3 6 5) 11) ≡ some (26, 0))
-    × (convert_refusal Every (of (train it not_it not_it 3 6 5) 11) ≡ some (26, 0))
-    × (convert_refusal BeginOnly (of (train it it it 3 6 5) 11) ≡ some (26, 0))
-    × (convert_refusal BeginOnly (of (train it not_it it 3 6 5) 10) ≡ some (26, 0))
-    × (convert_refusal BeginOnly (of (train it not_it not_it 3 6 4) 11) ≡ some (24, 0))
-    × (convert_refusal Every (of (train it not_it (len.Stated 13) 3 6 5) 11) ≡ some (23, 0))
+    (convert_refusal BeginOnly (of (train it not_it not_it 3 6 5) 10) ≡ Some (20, 0))
+    × (convert_refusal BeginOnly (of (train it not_it not_it 3 4 7) 11) ≡ Some (20, 0))
+    × (convert_refusal BeginOnly (of (train it not_it not_it 3 4 7) 12) ≡ None)
+    × (convert_refusal BeginOnly (of (train not_it not_it not_it 3 6 5) 11) ≡ Some (26, 0))
+    × (convert_refusal Every (of (train not_it not_it not_it 3 6 5) 11) ≡ Some (26, 0))
+    × (convert_refusal BeginOnly (of (train it not_it it 3 6 5) 11) ≡ Some (26, 0))
+    × (convert_refusal Every (of (train it not_it it 3 6 5) 11) ≡ Some (26, 0))
+    × (convert_refusal BeginOnly (of (train it it not_it 3 6 5) 11) ≡ Some (26, 0))
+    × (convert_refusal Every (of (train it it not_it 3 6 5) 11) ≡ Some (26, 0))
+    × (convert_refusal BeginOnly (of (train not_it it it 3 6 5) 11) ≡ Some (26, 0))
+    × (convert_refusal Every (of (train not_it it it 3 6 5) 11) ≡ Some (26, 0))
+    × (convert_refusal Every (of (train it not_it not_it 3 6 5) 11) ≡ Some (26, 0))
+    × (convert_refusal BeginOnly (of (train it it it 3 6 5) 11) ≡ Some (26, 0))
+    × (convert_refusal BeginOnly (of (train it not_it it 3 6 5) 10) ≡ Some (26, 0))
+    × (convert_refusal BeginOnly (of (train it not_it not_it 3 6 4) 11) ≡ Some (24, 0))
+    × (convert_refusal Every (of (train it not_it (Some 13) 3 6 5) 11) ≡ Some (23, 0))
 
 refusals : Refusals
 unfolding convert_refusal frozen_refusal segments_from data_before header_octets same_octets later_in restate_later passes_budget

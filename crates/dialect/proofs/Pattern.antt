@@ -1,15 +1,18 @@
 -- Which segments state a length, and which pass the budget: the tests of the definition in a reader's words. Assumes nothing.
 use Prim.Native.Nat.{ℕ, zero, suc, ◌+◌, ◌-◌, ◌≤◌, ◌<◌}
-use mathlib.Core.Path.{◌≡◌, refl, sym, ap, ◌∙◌, subst}
+use mathlib.Core.Path.{◌≡◌, refl, sym, ap, ap₂, ◌∙◌, subst}
 use mathlib.Core.Logic.{⊎_elim}
 use mathlib.Core.Bool.{Bool, true, false, ◌&&◌, ◌||◌, true≢false}
-use mathlib.Core.List.{List}
-use mathlib.Core.Option.{none}
-use native.Mathlib.Numerals.{add-one}
+use mathlib.Core.List.{List, [], ◌∷◌, ◌++◌}
+use Rattle.std.specs.Prelude.{None}
 use native.Mathlib.Omega.{arith}
-use lib.ListN.{length, get_or-eq_default}
+use lib.ListN.{length, get_or, take, drop, get_or-eq_default}
+use lib.Seq.{take-suc}
+use Rattle.std.specs.List.{list_all, list_any}
+use Rattle.std.proofs.Math.Bool.{and-true, or-false}
+use Rattle.std.proofs.lemmas.List.Folds.{list_all-append, list_any-append}
 use lib.Dec.{ltb}
-use borrow.Author.Tests.{lt-ltb, le-ltb}
+use borrow.Author.Tests.{le-ltb}
 use Rattle.octets.specs.Laws.{le_or_lt}
 use Rattle.tsar.specs.Writing.{header_octets}
 use Rattle.tsar.specs.declared.SegmentHead.{SegmentHead}
@@ -17,7 +20,7 @@ use Rattle.segmentation.specs.Cutting.{is_end}
 use Rattle.segmentation.specs.Frozen.{Proposal, no_head, head_at, frozen_refusal}
 use Rattle.segmentation.specs.Accepted.{frozen_acceptable}
 use Rattle.dialect.specs.declared.Dialect.{Dialect}
-use Rattle.dialect.specs.Convert.{states, later_fits, later_in, in_dialect, passes_budget}
+use Rattle.dialect.specs.Convert.{states, later_fits, later_in, in_dialect, passes_alone, passes_budget}
 
 -- ---- both of two tests
 
@@ -44,14 +47,6 @@ pub later_all : (d : Dialect) (heads : List SegmentHead) (k : ℕ) → ((j : ℕ
 unfolding later_in
 later_all d heads zero h = refl
 later_all d heads (suc k) h = and_true (later_in d heads k) _ (later_all d heads k (λ j a b. h j a (omega arith))) (h (suc k) (omega arith) (omega arith))
-
--- one that is not as the dialect says
-pub later_not : (d : Dialect) (heads : List SegmentHead) (k j : ℕ) → 0 < j → j ≤ k → later_fits d (head_at heads j) ≡ false → later_in d heads k ≡ false
-later_not d heads k j a h e = go (later_in d heads k) refl
-  where
-    go : (t : Bool) → later_in d heads k ≡ t → t ≡ false
-    go true f = absurd (true≢false (sym (later_each d heads k f j a h) ∙ e))
-    go false f = refl
 
 -- ---- the budget
 
@@ -83,7 +78,7 @@ passes_cong budget heads others (suc k) h =
     rw (e, h k (omega arith))
 
 -- ---- an array's room: a train that passes the check has all its heads
-pub room_of : (q : Proposal) → frozen_refusal q ≡ none → q.count ≤ length q.heads
+pub room_of : (q : Proposal) → frozen_refusal q ≡ None → q.count ≤ length q.heads
 room_of q ok =
     let c = (frozen_acceptable q ok).cutting in
     ⊎_elim (λ (h : q.count ≤ length q.heads). h)
@@ -94,44 +89,34 @@ room_of q ok =
     absurd (true≢false (sym (c.ends (q.count - 1) e) ∙ ap (λ (x : SegmentHead). is_end x.segment.kind) f)))
     (le_or_lt q.count (length q.heads))
 
--- ---- the loops' steps
+-- ---- the tests as the code makes them, on parts of the heads
 
-pub later_zero : (d : Dialect) (heads : List SegmentHead) → later_in d heads 0 ≡ true
+pub later_list : (d : Dialect) (heads : List SegmentHead) (k : ℕ) → suc k ≤ length heads → later_in d heads k ≡ list_all (later_fits d) (take k (drop 1 heads))
 unfolding later_in
-later_zero d heads = refl
+later_list d [] k h = absurd (omega arith)
+later_list d (x ∷ l) zero h = refl
+later_list d (x ∷ l) (suc k) h =
+    let e : take (suc k) l ≡ take k l ++ (get_or l k no_head ∷ []) = take-suc l k no_head (omega arith) in
+    ap (λ (b : Bool). b && later_fits d (get_or l k no_head)) (later_list d (x ∷ l) k (omega arith))
+    ∙ ap (λ (b : Bool). list_all (later_fits d) (take k l) && b) (sym (and-true (later_fits d (get_or l k no_head))))
+    ∙ sym (list_all-append (later_fits d) (take k l) (get_or l k no_head ∷ []))
+    ∙ ap (list_all (later_fits d)) (sym e)
 
-pub later_more : (d : Dialect) (heads : List SegmentHead) (i : ℕ) → 0 < i → later_in d heads (i - 1) ≡ true → later_fits d (head_at heads i) ≡ true → later_in d heads (i + 1 - 1) ≡ true
-later_more d heads i h e f =
-    later_all d heads (i + 1 - 1)
-    (λ j a b.
-    ⊎_elim (λ (l : j ≤ i - 1). later_each d heads (i - 1) e j a l)
-    (λ (l : i - 1 < j). let g : j ≡ i = omega arith in ap (λ (k : ℕ). later_fits d (head_at heads k)) g ∙ f)
-    (le_or_lt j (i - 1)))
+pub passes_list : (budget : ℕ) (heads : List SegmentHead) (k : ℕ) → k ≤ length heads → passes_budget budget heads k ≡ list_any (passes_alone budget) (take k heads)
+unfolding passes_budget
+passes_list budget heads zero h = refl
+passes_list budget heads (suc k) h =
+    let e : take (suc k) heads ≡ take k heads ++ (head_at heads k ∷ []) = take-suc heads k no_head (omega arith) in
+    ap (λ (b : Bool). b || passes_alone budget (head_at heads k)) (passes_list budget heads k (omega arith))
+    ∙ ap (λ (b : Bool). list_any (passes_alone budget) (take k heads) || b) (sym (or-false (passes_alone budget (head_at heads k))))
+    ∙ sym (list_any-append (passes_alone budget) (take k heads) (head_at heads k ∷ []))
+    ∙ ap (list_any (passes_alone budget)) (sym e)
 
-pub first_not : (d : Dialect) (heads : List SegmentHead) (count : ℕ) → states (head_at heads 0) ≡ false → in_dialect d heads count ≡ false
-first_not d heads count e = ap (λ (b : Bool). b && later_in d heads (count - 1)) e
-
-pub some_not : (d : Dialect) (heads : List SegmentHead) (count i : ℕ) → 0 < i → i < count → later_fits d (head_at heads i) ≡ false → in_dialect d heads count ≡ false
-some_not d heads count i a h e = go (states (head_at heads 0)) (later_in d heads (count - 1)) (later_not d heads (count - 1) i a (omega arith) e)
+-- heads that agree are in the same dialects
+pub dialect_cong : (d : Dialect) (heads others : List SegmentHead) (count : ℕ) → 0 < count → ((i : ℕ) → i < count → head_at heads i ≡ head_at others i) → in_dialect d heads count ≡ in_dialect d others count
+unfolding later_in
+dialect_cong d heads others count z h = ap₂ (λ (x : SegmentHead) (b : Bool). states x && b) (h 0 z) (go (count - 1) (λ i l. h i (omega arith)))
   where
-    go : (x y : Bool) → y ≡ false → (x && y) ≡ false
-    go true y f = f
-    go false y f = refl
-
-pub all_in : (d : Dialect) (heads : List SegmentHead) (count i : ℕ) → states (head_at heads 0) ≡ true → later_in d heads (i - 1) ≡ true → i ≡ count → in_dialect d heads count ≡ true
-all_in d heads count i e f g = and_true (states (head_at heads 0)) _ e (ap (λ (k : ℕ). later_in d heads (k - 1)) (sym g) ∙ f)
-
-pub passes_zero : (budget : ℕ) (heads : List SegmentHead) → passes_budget budget heads 0 ≡ false
-unfolding passes_budget
-passes_zero budget heads = refl
-
-pub passes_more : (budget : ℕ) (heads : List SegmentHead) (i : ℕ) → passes_budget budget heads i ≡ false → ltb budget (header_octets (head_at heads i).segment.kind + (head_at heads i).segment_data_length) ≡ false → passes_budget budget heads (i + 1) ≡ false
-unfolding passes_budget
-passes_more budget heads i e f = rw (add-one i) (rw (e, f))
-
--- a header and data beside the budget, with none added
-pub over_by : (budget header octets : ℕ) → header ≤ budget → ltb (budget - header) octets ≡ ltb budget (header + octets)
-over_by budget header octets h =
-    ⊎_elim (λ (l : octets ≤ budget - header). le-ltb (budget - header) octets l ∙ sym (le-ltb budget (header + octets) (omega arith)))
-    (λ (l : budget - header < octets). lt-ltb (budget - header) octets l ∙ sym (lt-ltb budget (header + octets) (omega arith)))
-    (le_or_lt octets (budget - header))
+    go : (k : ℕ) → ((i : ℕ) → i ≤ k → head_at heads i ≡ head_at others i) → later_in d heads k ≡ later_in d others k
+    go zero f = refl
+    go (suc k) f = ap₂ (λ (b : Bool) (x : SegmentHead). b && later_fits d x) (go k (λ i l. f i (omega arith))) (f (suc k) (omega arith))

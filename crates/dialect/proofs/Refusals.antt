@@ -3,14 +3,13 @@ use Prim.Native.Nat.{ℕ, zero, suc, ◌+◌, ◌-◌, ◌≤◌, ◌<◌}
 use mathlib.Core.Path.{◌≡◌, refl, sym, ap, ◌∙◌, subst}
 use mathlib.Core.Logic.{⊎_elim}
 use mathlib.Core.Bool.{Bool, true, false, ◌&&◌}
-use mathlib.Core.Option.{Option, none, some}
+use Rattle.std.specs.Prelude.{Option, Some, None}
 use native.Mathlib.Omega.{arith}
 use lib.ListN.{length}
 use borrow.Author.Tests.{lt-ltb}
 use Rattle.octets.specs.Laws.{le_or_lt}
 use Rattle.tsar.specs.Rows.{Refusal}
 use Rattle.tsar.specs.Writing.{header_octets, length_in}
-use Rattle.tsar.specs.declared.MessageLength.TheVariants as len
 use Rattle.tsar.specs.declared.SegmentKind.{SegmentKind}
 use Rattle.tsar.specs.declared.SegmentKind.TheVariants as kind'
 use Rattle.tsar.specs.declared.SegmentHead.{SegmentHead}
@@ -29,8 +28,8 @@ unfolding convert_of
 answered d q = go (convert_refusal d q)
   where
     go : (o : Option Refusal) → (checked_as o (converted (other_dialect d) q)).refused ≡ o
-    go none = refl
-    go (some r) = refl
+    go None = refl
+    go (Some r) = refl
 
 pub refused_plan : RefusedPlan
 unfolding convert_of
@@ -42,24 +41,24 @@ check_first d q r e = check_refused d q r e
 pub other_pattern : OtherPattern
 other_pattern d q ok no_such = go (in_dialect d q.heads q.count) refl
   where
-    go : (t : Bool) → in_dialect d q.heads q.count ≡ t → convert_refusal d q ≡ some (26, 0)
+    go : (t : Bool) → in_dialect d q.heads q.count ≡ t → convert_refusal d q ≡ Some (26, 0)
     go true e = absurd (no_such (in_to d q ok e))
     go false e = other_dialect_lem d q ok e
 
 -- ---- the budget
 
 -- a header that gets a length has two octets more
-two_more : (n : ℕ) (k : SegmentKind) → length_in k ≡ len.Unstated → header_octets (with_length (len.Stated n) k) ≡ header_octets k + 2
+two_more : (n : ℕ) (k : SegmentKind) → length_in k ≡ None → header_octets (with_length (Some n) k) ≡ header_octets k + 2
 unfolding header_octets
-two_more n (kind'.Begin len.Unstated s) e = omega arith
-two_more n (kind'.Begin (len.Stated m) s) e = absurd (unstated_only (sym e) refl)
-two_more n (kind'.Continue len.Unstated) e = omega arith
-two_more n (kind'.Continue (len.Stated m)) e = absurd (unstated_only (sym e) refl)
-two_more n (kind'.End len.Unstated c) e = omega arith
-two_more n (kind'.End (len.Stated m) c) e = absurd (unstated_only (sym e) refl)
+two_more n (kind'.Begin None s) e = omega arith
+two_more n (kind'.Begin (Some m) s) e = absurd (unstated_only (sym e) refl)
+two_more n (kind'.Continue None) e = omega arith
+two_more n (kind'.Continue (Some m)) e = absurd (unstated_only (sym e) refl)
+two_more n (kind'.End None c) e = omega arith
+two_more n (kind'.End (Some m) c) e = absurd (unstated_only (sym e) refl)
 
 -- a train that is checked and in which Begin alone states the length
-module _ (q : Proposal) (ok : frozen_refusal q ≡ none) (fit : InDialect BeginOnly q) where
+module _ (q : Proposal) (ok : frozen_refusal q ≡ None) (fit : InDialect BeginOnly q) where
   abbrev message : ℕ
   message = length q.message
 
@@ -106,14 +105,14 @@ pub within_budget : WithinBudget
 within_budget q ok fit no_such = none_refused BeginOnly q ok (in_it q ok fit) (none_long q ok fit no_such)
 
 -- a header without a length is no longer
-shorter : (k : SegmentKind) → header_octets (with_length len.Unstated k) ≤ header_octets k
+shorter : (k : SegmentKind) → header_octets (with_length None k) ≤ header_octets k
 unfolding header_octets
-shorter (kind'.Begin len.Unstated s) = omega arith
-shorter (kind'.Begin (len.Stated n) s) = omega arith
-shorter (kind'.Continue len.Unstated) = omega arith
-shorter (kind'.Continue (len.Stated n)) = omega arith
-shorter (kind'.End len.Unstated c) = omega arith
-shorter (kind'.End (len.Stated n) c) = omega arith
+shorter (kind'.Begin None s) = omega arith
+shorter (kind'.Begin (Some n) s) = omega arith
+shorter (kind'.Continue None) = omega arith
+shorter (kind'.Continue (Some n)) = omega arith
+shorter (kind'.End None c) = omega arith
+shorter (kind'.End (Some n) c) = omega arith
 
 pub never_20 : Never20
 never_20 q ok p =
@@ -128,23 +127,23 @@ never_20 q ok p =
     (λ _. omega (arith, a.fits i h, shorter (head_at q.heads i).segment.kind)))))
 
 abbrev first_number : Option Refusal → ℕ
-first_number none = 0
-first_number (some r) = r.0
+first_number None = 0
+first_number (Some r) = r.0
 
 -- whether the train is in the long dialect or not, 20 is not the converter's
 pub only_20 : Only20
 only_20 q e = go (frozen_refusal q) refl
   where
-    none_of : (t : Bool) → in_dialect Every q.heads q.count ≡ t → frozen_refusal q ≡ none → ⊥
-    none_of true f ok = let g : ◌≡◌ {A = Option Refusal} none (some (20, 0)) = sym (never_20 q ok (in_to Every q ok f)) ∙ e in let z : ◌≡◌ {A = ℕ} 0 1 = cc in omega arith
-    none_of false f ok = let g : ◌≡◌ {A = Option Refusal} (some (26, 0)) (some (20, 0)) = sym (other_dialect_lem Every q ok f) ∙ e in let z : ◌≡◌ {A = ℕ} 26 20 = ap first_number g in omega arith
+    none_of : (t : Bool) → in_dialect Every q.heads q.count ≡ t → frozen_refusal q ≡ None → ⊥
+    none_of true f ok = let g : ◌≡◌ {A = Option Refusal} None (Some (20, 0)) = sym (never_20 q ok (in_to Every q ok f)) ∙ e in let z : ◌≡◌ {A = ℕ} 0 1 = cc in omega arith
+    none_of false f ok = let g : ◌≡◌ {A = Option Refusal} (Some (26, 0)) (Some (20, 0)) = sym (other_dialect_lem Every q ok f) ∙ e in let z : ◌≡◌ {A = ℕ} 26 20 = ap first_number g in omega arith
 
-    go : (o : Option Refusal) → frozen_refusal q ≡ o → frozen_refusal q ≡ some (20, 0)
-    go none f = absurd (none_of (in_dialect Every q.heads q.count) refl f)
-    go (some r) f = f ∙ sym (check_refused Every q r f) ∙ e
+    go : (o : Option Refusal) → frozen_refusal q ≡ o → frozen_refusal q ≡ Some (20, 0)
+    go None f = absurd (none_of (in_dialect Every q.heads q.count) refl f)
+    go (Some r) f = f ∙ sym (check_refused Every q r f) ∙ e
 
 -- a larger budget takes what a smaller one takes
-more_budget : (q : Proposal) (budget : ℕ) → frozen_refusal q ≡ none → q.budget ≤ budget → budget ≤ q.ceiling → frozen_refusal (with_budget q budget) ≡ none
+more_budget : (q : Proposal) (budget : ℕ) → frozen_refusal q ≡ None → q.budget ≤ budget → budget ≤ q.ceiling → frozen_refusal (with_budget q budget) ≡ None
 more_budget q budget ok h k =
     let a = frozen_acceptable q ok in
     cutting_accepted (with_budget q budget) (record { within_ceiling = k; sums = a.sums; cutting = a.cutting; codec = a.codec; fits = λ i l. omega (arith, a.fits i l, h) })
@@ -168,7 +167,7 @@ already d q ok o = other_pattern d q ok (not_both d q (omega (arith, (frozen_acc
 pub never_long : NeverLong
 never_long d q ok h = go (states (head_at q.heads 0)) refl
   where
-    go : (t : Bool) → states (head_at q.heads 0) ≡ t → convert_refusal d q ≡ some (26, 0)
+    go : (t : Bool) → states (head_at q.heads 0) ≡ t → convert_refusal d q ≡ Some (26, 0)
     go true e = let m : length q.message ≤ 4095 = not_long d q ok (room_of q ok) e in absurd (omega arith)
     go false e = other_dialect_lem d q ok (ap (λ (b : Bool). b && later_in d q.heads (q.count - 1)) e)
 

@@ -3,7 +3,7 @@ use Prim.Native.Nat.{ℕ, zero, suc, ◌+◌, ◌-◌, ◌≤◌, ◌<◌}
 use mathlib.Core.Path.{◌≡◌, refl, sym, ap, ap₂, ◌∙◌, subst}
 use mathlib.Core.Bool.{Bool, true, false, not}
 use mathlib.Core.List.{List, [], ◌∷◌, ◌++◌}
-use mathlib.Core.Option.{Option, none, some}
+use Rattle.std.specs.Prelude.{Option, Some, None}
 use native.Mathlib.Omega.{arith}
 use lib.ListN.{length, take, drop, replicate, length-append, length-replicate}
 use lib.Seq.{length-take-le}
@@ -11,13 +11,10 @@ use Rattle.tsar.specs.Rows.{Refusal, refusal, or_else}
 use Rattle.tsar.specs.Writing.{header_octets, crc_in}
 use Rattle.tsar.specs.Layout.{type_of}
 use Rattle.tsar.specs.declared.AcknowledgmentWindow.{AcknowledgmentWindow}
-use Rattle.tsar.specs.declared.MessageLength.{MessageLength}
-use Rattle.tsar.specs.declared.MessageLength.TheVariants as len
 use Rattle.tsar.specs.declared.SegmentKind.{SegmentKind}
 use Rattle.tsar.specs.declared.SegmentKind.TheVariants as kind'
 use Rattle.tsar.specs.declared.SegmentHead.{SegmentHead}
 use Rattle.segmentation.specs.declared.FrozenMessage.{FrozenMessage}
-use Rattle.segmentation.specs.declared.PlannedSegment.TheVariants.{Segment as Planned}
 use Rattle.segmentation.specs.Cutting.{services_or_default}
 use Rattle.segmentation.specs.Frozen.{Proposal, Checked, proposed, no_head, head_at, frozen_refusal, services_of, kept_heads, frozen_of, checked_as, try_from_frozen, frozen_segment_at}
 use Rattle.segmentation.specs.Heads.{kept_head, kept_before}
@@ -34,40 +31,40 @@ use Rattle.dialect.proofs.Dialects.{in_to}
 -- ---- the rows
 
 -- where nothing is refused: the check passed, in the dialect, within the budget
-came : (a : Option Refusal) (x y : Bool) → or_else a (refusal ((not x, (26, 0)) ∷ (y, (20, 0)) ∷ [])) ≡ none → (a ≡ none) × (x ≡ true) × (y ≡ false)
-came none true true e = (refl, refl, absurd (let z : ◌≡◌ {A = ℕ} 0 1 = cc in omega arith))
-came none true false e = (refl, refl, refl)
-came none false y e = absurd (let z : ◌≡◌ {A = ℕ} 0 1 = cc in omega arith)
-came (some r) x y e = absurd (let z : ◌≡◌ {A = ℕ} 0 1 = cc in omega arith)
+came : (a : Option Refusal) (x y : Bool) → or_else a (refusal ((not x, (26, 0)) ∷ (y, (20, 0)) ∷ [])) ≡ None → (a ≡ None) × (x ≡ true) × (y ≡ false)
+came None true true e = (refl, refl, absurd (let z : ◌≡◌ {A = ℕ} 0 1 = cc in omega arith))
+came None true false e = (refl, refl, refl)
+came None false y e = absurd (let z : ◌≡◌ {A = ℕ} 0 1 = cc in omega arith)
+came (Some r) x y e = absurd (let z : ◌≡◌ {A = ℕ} 0 1 = cc in omega arith)
 
 module _ (d : Dialect) (q : Proposal) where
-  pub check_refused : (r : Refusal) → frozen_refusal q ≡ some r → convert_refusal d q ≡ some r
+  pub check_refused : (r : Refusal) → frozen_refusal q ≡ Some r → convert_refusal d q ≡ Some r
   unfolding convert_refusal
   check_refused r e = ap (λ (o : Option Refusal). or_else o (refusal (dialect_rows d q))) e
 
-  pub other_dialect_lem : frozen_refusal q ≡ none → in_dialect d q.heads q.count ≡ false → convert_refusal d q ≡ some (26, 0)
+  pub other_dialect_lem : frozen_refusal q ≡ None → in_dialect d q.heads q.count ≡ false → convert_refusal d q ≡ Some (26, 0)
   unfolding convert_refusal
   other_dialect_lem e f =
       ap (λ (o : Option Refusal). or_else o (refusal (dialect_rows d q))) e
       ∙ ap (λ (x : Bool). refusal ((not x, (26, 0)) ∷ (passes_budget q.budget (converted (other_dialect d) q).heads q.count, (20, 0)) ∷ [])) f
 
-  pub budget_passed : frozen_refusal q ≡ none → in_dialect d q.heads q.count ≡ true → passes_budget q.budget (converted (other_dialect d) q).heads q.count ≡ true → convert_refusal d q ≡ some (20, 0)
+  pub budget_passed : frozen_refusal q ≡ None → in_dialect d q.heads q.count ≡ true → passes_budget q.budget (converted (other_dialect d) q).heads q.count ≡ true → convert_refusal d q ≡ Some (20, 0)
   unfolding convert_refusal
   budget_passed e f g =
       ap (λ (o : Option Refusal). or_else o (refusal (dialect_rows d q))) e
       ∙ ap₂ {C = Option Refusal} (λ (x y : Bool). refusal ((not x, (26, 0)) ∷ (y, (20, 0)) ∷ [])) f g
 
-  pub none_refused : frozen_refusal q ≡ none → in_dialect d q.heads q.count ≡ true → passes_budget q.budget (converted (other_dialect d) q).heads q.count ≡ false → convert_refusal d q ≡ none
+  pub none_refused : frozen_refusal q ≡ None → in_dialect d q.heads q.count ≡ true → passes_budget q.budget (converted (other_dialect d) q).heads q.count ≡ false → convert_refusal d q ≡ None
   unfolding convert_refusal
   none_refused e f g =
       ap (λ (o : Option Refusal). or_else o (refusal (dialect_rows d q))) e
       ∙ ap₂ {C = Option Refusal} (λ (x y : Bool). refusal ((not x, (26, 0)) ∷ (y, (20, 0)) ∷ [])) f g
 
-  pub parts : convert_refusal d q ≡ none → (frozen_refusal q ≡ none) × (in_dialect d q.heads q.count ≡ true) × (passes_budget q.budget (converted (other_dialect d) q).heads q.count ≡ false)
+  pub parts : convert_refusal d q ≡ None → (frozen_refusal q ≡ None) × (in_dialect d q.heads q.count ≡ true) × (passes_budget q.budget (converted (other_dialect d) q).heads q.count ≡ false)
   unfolding convert_refusal
   parts e = came (frozen_refusal q) (in_dialect d q.heads q.count) (passes_budget q.budget (converted (other_dialect d) q).heads q.count) e
 
-  pub plan_is : convert_refusal d q ≡ none → convert_of d q ≡ record { refused = none; plan = frozen_of (converted (other_dialect d) q) }
+  pub plan_is : convert_refusal d q ≡ None → convert_of d q ≡ record { refused = None; plan = frozen_of (converted (other_dialect d) q) }
   unfolding convert_of
   plan_is e = ap (λ (o : Option Refusal). checked_as o (converted (other_dialect d) q)) e
 
@@ -75,8 +72,8 @@ module _ (d : Dialect) (q : Proposal) where
 
 -- what a restated head states is what its dialect wants
 own_dialect : (e : Dialect) (n : ℕ) (h : SegmentHead) → later_fits e (restated e n h) ≡ true
-own_dialect BeginOnly n h = ap (λ (l : MessageLength). not (is_stated l)) (the_length len.Unstated h.segment.kind)
-own_dialect Every n h = ap is_stated (the_length (len.Stated n) h.segment.kind)
+own_dialect BeginOnly n h = ap (λ (l : Option ℕ). not (is_stated l)) (the_length None h.segment.kind)
+own_dialect Every n h = ap is_stated (the_length (Some n) h.segment.kind)
 
 other_other : (d : Dialect) → other_dialect (other_dialect d) ≡ d
 other_other BeginOnly = refl
@@ -92,14 +89,14 @@ kept_kept : (l : List SegmentHead) (count : ℕ) → count ≤ length l → kept
 unfolding kept_heads
 kept_kept l count h = ap (λ (t : List SegmentHead). t ++ replicate (256 - count) no_head) (take_kept l (replicate (256 - count) no_head) count h)
 
-same_services_lem : (l : MessageLength) (k : SegmentKind) → services_of (with_length l k) ≡ services_of k
+same_services_lem : (l : Option ℕ) (k : SegmentKind) → services_of (with_length l k) ≡ services_of k
 same_services_lem l (kind'.Begin n s) = refl
 same_services_lem l (kind'.Continue n) = refl
 same_services_lem l (kind'.End n c) = refl
 
 -- ---- a train that is converted
 
-module _ (d : Dialect) (q : Proposal) (ok : convert_refusal d q ≡ none) where
+module _ (d : Dialect) (q : Proposal) (ok : convert_refusal d q ≡ None) where
   abbrev n : ℕ
   n = length q.message
 
@@ -109,7 +106,7 @@ module _ (d : Dialect) (q : Proposal) (ok : convert_refusal d q ≡ none) where
   abbrev kept' : List SegmentHead
   kept' = kept_heads (restated_heads (other_dialect d) (length q.message) q.count q.heads) q.count
 
-  frozen_ok : frozen_refusal q ≡ none
+  frozen_ok : frozen_refusal q ≡ None
   frozen_ok = (parts d q ok).0
 
   in_ok : (states (head_at q.heads 0) ≡ true) × (later_in d q.heads (q.count - 1) ≡ true)
@@ -124,14 +121,14 @@ module _ (d : Dialect) (q : Proposal) (ok : convert_refusal d q ≡ none) where
   room' : q.count ≤ length heads'
   room' = omega (arith, heads_length (other_dialect d) n q.count q.heads, room)
 
-  pub converted_frozen : frozen_refusal (converted (other_dialect d) q) ≡ none
+  pub converted_frozen : frozen_refusal (converted (other_dialect d) q) ≡ None
   converted_frozen = still_frozen (other_dialect d) q frozen_ok room in_ok.0 (parts d q ok).2
 
   pub again_is : again d q ≡ with_heads q kept'
   again_is = ap (λ (x : Checked). with_heads q x.plan.heads) (plan_is d q ok)
 
   -- what comes out, proposed again, passes
-  kept_frozen : frozen_refusal (with_heads q kept') ≡ none
+  kept_frozen : frozen_refusal (with_heads q kept') ≡ None
   kept_frozen = frozen_again (converted (other_dialect d) q) converted_frozen
 
   head_is : (i : ℕ) → i < q.count → head_at kept' i ≡ restated_at (other_dialect d) n i (head_at q.heads i)
@@ -167,7 +164,7 @@ module _ (d : Dialect) (q : Proposal) (ok : convert_refusal d q ≡ none) where
       passes_none q.budget back q.count
       (λ i h. subst (λ (x : SegmentHead). header_octets x.segment.kind + x.segment_data_length ≤ q.budget) (sym (back_head i h)) ((frozen_acceptable q frozen_ok).fits i h))
 
-  kept_none : convert_refusal (other_dialect d) (with_heads q kept') ≡ none
+  kept_none : convert_refusal (other_dialect d) (with_heads q kept') ≡ None
   kept_none =
       none_refused (other_dialect d) (with_heads q kept') kept_frozen kept_in
       (ap (λ (b : Dialect). passes_budget q.budget (restated_heads b n q.count kept') q.count) (other_other d) ∙ back_fits)
@@ -179,25 +176,25 @@ module _ (d : Dialect) (q : Proposal) (ok : convert_refusal d q ≡ none) where
       back_kept
       (ap (λ (x : SegmentHead). (services_or_default (services_of x.segment.kind)).acknowledgment_window) (back_head 0 (omega (arith, two))))
 
-  pub back_again : convert_of (other_dialect d) (again d q) ≡ record { refused = none; plan = frozen_of q }
+  pub back_again : convert_of (other_dialect d) (again d q) ≡ record { refused = None; plan = frozen_of q }
   back_again =
       ap (convert_of (other_dialect d)) again_is ∙ plan_is (other_dialect d) (with_heads q kept') kept_none
-      ∙ ap (λ (b : Dialect). record { refused = none; plan = frozen_of (with_heads q (restated_heads b n q.count kept')) }) (other_other d)
-      ∙ ap (λ (p : FrozenMessage). record { refused = none; plan = p }) first_plan
+      ∙ ap (λ (b : Dialect). record { refused = None; plan = frozen_of (with_heads q (restated_heads b n q.count kept')) }) (other_other d)
+      ∙ ap (λ (p : FrozenMessage). record { refused = None; plan = p }) first_plan
 
   -- the check gives that very plan
-  pub checked_again : try_from_frozen (again d q) ≡ record { refused = none; plan = (convert_of d q).plan }
+  pub checked_again : try_from_frozen (again d q) ≡ record { refused = None; plan = (convert_of d q).plan }
   unfolding try_from_frozen
   checked_again =
       ap try_from_frozen again_is ∙ ap (λ (o : Option Refusal). checked_as o (with_heads q kept')) kept_frozen
       ∙ ap₂ {C = Checked}
-      (λ (h : List SegmentHead) (w : AcknowledgmentWindow). record { refused = none; plan = record { heads = h; count = q.count; message_octets = n; payload_budget_octets = q.budget; acknowledgment_window = w } })
+      (λ (h : List SegmentHead) (w : AcknowledgmentWindow). record { refused = None; plan = record { heads = h; count = q.count; message_octets = n; payload_budget_octets = q.budget; acknowledgment_window = w } })
       (kept_kept heads' q.count room')
       (ap (λ (x : SegmentHead). (services_or_default (services_of x.segment.kind)).acknowledgment_window) (kept_head heads' q.count 0 (omega (arith, two))))
-      ∙ ap (λ (x : Checked). record { refused = none; plan = x.plan }) (sym (plan_is d q ok))
+      ∙ ap (λ (x : Checked). record { refused = None; plan = x.plan }) (sym (plan_is d q ok))
 
   -- so it is what the check gives of itself, with the 256 heads of every plan
-  pub again_accepted : frozen_refusal (again d q) ≡ none
+  pub again_accepted : frozen_refusal (again d q) ≡ None
   again_accepted = ap frozen_refusal again_is ∙ kept_frozen
 
   pub again_plan : frozen_of (again d q) ≡ (convert_of d q).plan
@@ -225,7 +222,7 @@ module _ (d : Dialect) (q : Proposal) (ok : convert_refusal d q ≡ none) where
             ∙ ap₂ {C = List ℕ} (λ (x y : ℕ). take x (drop y q.joined)) (ap (λ (x : SegmentHead). x.segment_data_length) (kept_head heads' q.count i h)) (kept_before heads' q.count i (omega arith))
             ∙ same_data (other_dialect d) q frozen_ok room in_ok.0 i h;
         same_place = ap (λ (p : FrozenMessage). frozen_segment_at p i) plan ∙ frozen_segment (converted (other_dialect d) q) converted_frozen i h
-            ∙ ap₂ (λ (x : SegmentHead) (o : ℕ). Planned (record { head = x; offset = o })) (sym (kept_head heads' q.count i h) ∙ ap (λ (p : FrozenMessage). head_at p.heads i) (sym plan)) (same_before (other_dialect d) q frozen_ok room in_ok.0 i (omega arith));
+            ∙ ap₂ (λ (x : SegmentHead) (o : ℕ). Some (record { head = x; offset = o })) (sym (kept_head heads' q.count i h) ∙ ap (λ (p : FrozenMessage). head_at p.heads i) (sym plan)) (same_before (other_dialect d) q frozen_ok room in_ok.0 i (omega arith));
       }
     where
       each : (P : SegmentHead → Type 0) → head_at (convert_of d q).plan.heads i ≡ restated_at (other_dialect d) n i (head_at q.heads i) → P (head_at q.heads i) → P (restated (other_dialect d) n (head_at q.heads i)) → P (head_at (convert_of d q).plan.heads i)

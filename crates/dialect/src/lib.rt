@@ -1,19 +1,20 @@
 // Two dialects of a frozen plan, and the converter between them: Begin alone states the message's length, or every segment does (2026-06).
 #![tactic(auto)]
 
-ghost use Rattle.std.specs.Prelude.{◌≡◌, ◌+◌, ◌≤◌, ltb};
-ghost use Rattle.std.proofs.Math.Option.{some};
-ghost use Rattle.tsar.specs.Writing.{header_octets};
-ghost use Rattle.segmentation.specs.Frozen.{no_plan};
-ghost use Rattle.dialect.specs.Numbers.{convert_number};
-ghost use Rattle.dialect.specs.Convert.{other_dialect, is_stated, states, later_fits, in_dialect, length_for, with_length, restated, restated_heads, passes_budget, converted_by, convert_of};
+ghost use Rattle.std.specs.Prelude.{◌≡◌, ◌≤◌, false, map};
+ghost use Rattle.std.specs.List.{list_all, list_any};
+ghost use Rattle.tsar.specs.Rows.{refusal};
+ghost use Rattle.tsar.specs.Writing.{length_in};
+ghost use Rattle.segmentation.specs.Cutting.{states_other};
+ghost use Rattle.segmentation.specs.Frozen.{head_at};
+ghost use Rattle.dialect.specs.Convert.{other_dialect, states, later_fits, length_for, with_length, restated, passes_alone, plan_rows, restated_plan, plan_as, plan_by, converted_by, convert_of};
 
-use segmentation::frozen::{length_in, no_plan, try_from_frozen};
-use segmentation::{FrozenAnswer, FrozenMessage, PlanningError};
-use tsar::{MessageLength, Segment, SegmentHead, SegmentKind};
+use segmentation::frozen::{length_in, try_from_frozen};
+use segmentation::{FrozenMessage, PlanAnswer, PlanningError};
+use tsar::{Segment, SegmentHead, SegmentKind};
 
 // The dialect of a train.
-#[derive(Clone, Copy)]
+#[derive(Clone, Copy, Debug, PartialEq, Eq)]
 pub enum Dialect {
     BeginOnly,
     Every,
@@ -21,186 +22,134 @@ pub enum Dialect {
 
 // Why a train is not converted. Planning is what the frozen check says of the train, and 20 of a converted segment; OtherPattern is 26, which the
 // source has not: the train is not in the dialect being read.
-#[derive(Clone, Copy)]
+#[derive(Clone, Copy, Debug, PartialEq, Eq)]
 pub enum ConvertError {
     Planning(PlanningError),
     OtherPattern,
 }
 
-#[derive(Clone, Copy)]
-pub enum ConvertAnswer {
-    Converted,
-    Refused(ConvertError),
-}
-
-// What convert gives: the answer, and the plan beside it; refused, a plan of no segments.
-#[derive(Clone, Copy)]
-pub struct Conversion {
-    pub answer: ConvertAnswer,
-    pub plan: FrozenMessage,
-}
-
-fn other_dialect(dialect: Dialect) -> Dialect
-    ensures { result ≡ other_dialect dialect }
-{
-    match dialect {
-        Dialect::BeginOnly => Dialect::Every,
-        Dialect::Every => Dialect::BeginOnly,
-    }
-}
-
-fn is_stated(message_length: MessageLength) -> bool
-    ensures { result ≡ is_stated message_length }
-{
-    match message_length {
-        MessageLength::Unstated => false,
-        MessageLength::Stated(_) => true,
-    }
-}
+// What convert gives.
+pub type Conversion = PlanAnswer<ConvertError>;
 
 // Whether a segment states a length.
 fn states_length(head: SegmentHead) -> bool
     ensures { result ≡ states head }
 {
-    let segment = head.segment;
-    let kind = segment.kind;
-    is_stated(length_in(kind))
+    length_in(head.segment.kind).is_some()
 }
 
-// Whether a head states a length, or none, as a dialect has it of a later segment.
-fn later_fits(head: SegmentHead, dialect: Dialect) -> bool
-    ensures { result ≡ later_fits dialect head }
-{
-    match dialect {
-        Dialect::BeginOnly => !states_length(head),
-        Dialect::Every => states_length(head),
-    }
-}
-
-// Whether the first count heads are a train in a dialect.
-fn is_in(heads: [SegmentHead; 256], count: usize, dialect: Dialect) -> bool
-    requires { (1 ≤ count) × (count ≤ 256) }
-    ensures { result ≡ in_dialect dialect heads count }
-{
-    if !states_length(heads[0]) {
-        return false;
-    }
-    let mut i: usize = 1;
-    while i < count {
-        if !later_fits(heads[i], dialect) {
-            return false;
-        }
-        i += 1;
-    }
-    true
-}
-
-// The length that a later segment states in a dialect.
-fn length_for(dialect: Dialect, message_octets: usize) -> MessageLength
-    requires { message_octets ≤ 4095 }
-    ensures { result ≡ length_for dialect message_octets }
-{
-    match dialect {
-        Dialect::BeginOnly => MessageLength::Unstated,
-        Dialect::Every => MessageLength::Stated(message_octets as u16),
-    }
-}
-
-fn with_length(kind: SegmentKind, message_length: MessageLength) -> SegmentKind
+fn with_length(kind: SegmentKind, message_length: Option<u16>) -> SegmentKind
     ensures { result ≡ with_length message_length kind }
 {
     match kind {
-        SegmentKind::Begin {
-            message_length: _,
-            services,
-        } => SegmentKind::Begin {
+        SegmentKind::Begin { services, .. } => SegmentKind::Begin {
             message_length,
             services,
         },
-        SegmentKind::Continue { message_length: _ } => SegmentKind::Continue { message_length },
-        SegmentKind::End {
-            message_length: _,
-            crc,
-        } => SegmentKind::End {
+        SegmentKind::Continue { .. } => SegmentKind::Continue { message_length },
+        SegmentKind::End { crc, .. } => SegmentKind::End {
             message_length,
             crc,
         },
     }
 }
 
-// A later head as a dialect has it.
-fn restate(head: SegmentHead, dialect: Dialect, message_octets: usize) -> SegmentHead
-    requires { message_octets ≤ 4095 }
-    ensures { result ≡ restated dialect message_octets head }
-{
-    let segment = head.segment;
-    let kind = segment.kind;
-    let restated = with_length(kind, length_for(dialect, message_octets));
-    SegmentHead {
-        segment: Segment {
-            transaction_id: segment.transaction_id,
-            sequence_number: segment.sequence_number,
-            kind: restated,
-        },
-        segment_data_length: head.segment_data_length,
-    }
-}
-
-// The first count heads in a dialect: Begin as it is.
-fn restate_heads(
-    mut heads: [SegmentHead; 256],
-    count: usize,
-    dialect: Dialect,
-    message_octets: usize,
-) -> [SegmentHead; 256]
-    requires { (1 ≤ count) × (count ≤ 256) × (message_octets ≤ 4095) }
-    ensures { result ≡ restated_heads dialect message_octets count heads }
-{
-    let mut at: usize = 1;
-    while at < count {
-        heads[at] = restate(heads[at], dialect, message_octets);
-        at += 1;
-    }
-    heads
-}
-
-// Whether a segment passes the budget. A data length is any number, so it is compared with what the header leaves, and nothing is added.
-fn passes_alone(head: SegmentHead, payload_budget_octets: usize) -> bool
-    ensures { result ≡ ltb payload_budget_octets (header_octets head.segment.kind + head.segment_data_length) }
-{
-    let segment = head.segment;
-    let kind = segment.kind;
-    let header = kind.header_octets();
-    if payload_budget_octets < header {
-        return true;
-    }
-    payload_budget_octets - header < head.segment_data_length
-}
-
-// Whether one of the first count segments passes the budget.
-fn passes_budget(heads: [SegmentHead; 256], count: usize, payload_budget_octets: usize) -> bool
-    requires { count ≤ 256 }
-    ensures { result ≡ passes_budget payload_budget_octets heads count }
-{
-    let mut i: usize = 0;
-    while i < count {
-        if passes_alone(heads[i], payload_budget_octets) {
-            return true;
+impl Dialect {
+    fn other(self) -> Dialect
+        ensures { result ≡ other_dialect self }
+    {
+        match self {
+            Dialect::BeginOnly => Dialect::Every,
+            Dialect::Every => Dialect::BeginOnly,
         }
-        i += 1;
     }
-    false
+
+    // Whether a later segment states a length, or none, as the dialect has it.
+    fn fits(self, head: SegmentHead) -> bool
+        ensures { result ≡ later_fits self head }
+    {
+        match self {
+            Dialect::BeginOnly => !states_length(head),
+            Dialect::Every => states_length(head),
+        }
+    }
+
+    fn fits_all(self, later: &[SegmentHead]) -> bool
+        ensures { result ≡ list_all (later_fits self) later.now }
+    {
+        later.iter().all(|head| self.fits(*head))
+    }
+
+    // The length that a later segment states.
+    fn length(self, message_octets: u16) -> Option<u16>
+        ensures { result ≡ length_for self message_octets }
+    {
+        match self {
+            Dialect::BeginOnly => None,
+            Dialect::Every => Some(message_octets),
+        }
+    }
+
+    // A later segment as the dialect has it.
+    fn restated(self, head: SegmentHead, message_octets: u16) -> SegmentHead
+        ensures { result ≡ restated self message_octets head }
+    {
+        SegmentHead {
+            segment: Segment {
+                kind: with_length(head.segment.kind, self.length(message_octets)),
+                ..head.segment
+            },
+            ..head
+        }
+    }
+
+    fn restate_all(self, later: &mut [SegmentHead], message_octets: u16)
+        ensures { later.new ≡ map (restated self message_octets) later.old }
+    {
+        for head in later.iter_mut() {
+            *head = self.restated(*head, message_octets);
+        }
+    }
+
+    // A plan that the frozen check gave in the other dialect, or why it is refused. Begin states the message's length.
+    fn converted(self, mut plan: FrozenMessage) -> Result<FrozenMessage, ConvertError>
+        requires counted { (1 ≤ plan.count) × (plan.count ≤ 256) }
+        requires stated { states_other (length_in (head_at plan.heads 0).segment.kind) plan.message_octets ≡ false }
+        ensures { plan_by result ≡ plan_as (refusal (plan_rows self plan)) (restated_plan (other_dialect self) plan) }
+    {
+        let count = plan.count;
+        let message_octets = length_in(plan.heads[0].segment.kind).ok_or(
+            ConvertError::OtherPattern,
+        )?;
+        if !self.fits_all(&plan.heads[1..count]) {
+            return Err(ConvertError::OtherPattern);
+        }
+        self.other()
+            .restate_all(&mut plan.heads[1..count], message_octets);
+        if passes_budget(&plan.heads[..count], plan.payload_budget_octets) {
+            return Err(ConvertError::Planning(PlanningError::PayloadBudget));
+        }
+        Ok(plan)
+    }
 }
 
-// A refusal, with a plan of no segments beside it.
-fn refused(error: ConvertError) -> Conversion
-    ensures { converted_by result ≡ record { refused = some (convert_number error); plan = no_plan } }
+// Whether a segment passes the budget. A data length is any number: a sum that is none of 64 bits passes every budget.
+fn passes_alone(head: SegmentHead, payload_budget_octets: usize) -> bool
+    ensures { result ≡ passes_alone payload_budget_octets head }
 {
-    let plan = no_plan();
-    Conversion {
-        answer: ConvertAnswer::Refused(error),
-        plan,
-    }
+    let header = head.segment.kind.header_octets();
+    header
+        .checked_add(head.segment_data_length)
+        .is_none_or(|octets| payload_budget_octets < octets)
+}
+
+// Whether one of them does.
+fn passes_budget(heads: &[SegmentHead], payload_budget_octets: usize) -> bool
+    ensures { result ≡ list_any (passes_alone payload_budget_octets) heads.now }
+{
+    heads
+        .iter()
+        .any(|head| passes_alone(*head, payload_budget_octets))
 }
 
 // Converts a train that passes the frozen check, and is in the dialect being read, into the other dialect.
@@ -225,26 +174,8 @@ pub fn convert(
         version,
         ceiling,
     );
-    let answer = check.answer;
-    match answer {
-        FrozenAnswer::Refused(e) => refused(ConvertError::Planning(e)),
-        FrozenAnswer::Accepted => {
-            if !is_in(heads, count, read) {
-                return refused(ConvertError::OtherPattern);
-            }
-            let plan = check.plan;
-            let kept = plan.heads;
-            let restated = restate_heads(kept, count, other_dialect(read), message.len());
-            if passes_budget(restated, count, payload_budget_octets) {
-                return refused(ConvertError::Planning(PlanningError::PayloadBudget));
-            }
-            Conversion {
-                answer: ConvertAnswer::Converted,
-                plan: FrozenMessage {
-                    heads: restated,
-                    ..plan
-                },
-            }
-        }
-    }
+    Conversion::from(match check.answer {
+        Ok(()) => read.converted(check.plan),
+        Err(error) => Err(ConvertError::Planning(error)),
+    })
 }

@@ -5,7 +5,6 @@
 
 mod calls;
 mod comparisons;
-mod lends;
 mod maps;
 mod says;
 

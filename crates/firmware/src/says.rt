@@ -1,92 +1,97 @@
-// What is printed of an answer. No contract can say what is printed; each call is safe and ends.
-use receiver::{AdvanceAnswer, CancelAnswer, Message, ReceiveAnswer, ReceiveError, Reply};
+// What is printed of an answer.
+use receiver::{ReceiveError, Reception, Reported};
 use response::status_number;
-use std::io;
-use tally::{say, say_number};
+use std::fmt;
 
 // Document 01's number of a refusal; of the codec's, only that it is the codec's.
-fn refusal(rt: &impl Print, e: ReceiveError) -> io::Result<()> {
-    say(rt, b"refused with ")?;
-    match e {
-        ReceiveError::Identity => say_number(rt, 30),
-        ReceiveError::Service => say_number(rt, 31),
-        ReceiveError::TransactionId => say_number(rt, 32),
-        ReceiveError::Codec(_) => say(rt, b"a number of the codec"),
-        ReceiveError::ClockRegression => say_number(rt, 33),
-        ReceiveError::TimeOverflow => say_number(rt, 34),
-        ReceiveError::UnparsedSegment => say_number(rt, 35),
-        ReceiveError::BeginRequired => say_number(rt, 36),
-        ReceiveError::TimerDue => say_number(rt, 37),
-        ReceiveError::Closed => say_number(rt, 38),
-        ReceiveError::Store => say_number(rt, 60),
-        ReceiveError::Output => say_number(rt, 61),
-        ReceiveError::ImpossibleState => say_number(rt, 62),
-        ReceiveError::Profile => say_number(rt, 64),
+#[derive(Clone, Copy)]
+struct Refusal(ReceiveError);
+
+impl fmt::Display for Refusal {
+    fn fmt<W: fmt::Write>(&self, f: &mut fmt::Formatter<W>) -> fmt::Result {
+        let number = match self.0 {
+            ReceiveError::Codec(_) => {
+                return write!(f, "refused with a number of the codec");
+            }
+            ReceiveError::Identity => 30,
+            ReceiveError::Service => 31,
+            ReceiveError::TransactionId => 32,
+            ReceiveError::ClockRegression => 33,
+            ReceiveError::TimeOverflow => 34,
+            ReceiveError::UnparsedSegment => 35,
+            ReceiveError::BeginRequired => 36,
+            ReceiveError::TimerDue => 37,
+            ReceiveError::Closed => 38,
+            ReceiveError::Store => 60,
+            ReceiveError::Output => 61,
+            ReceiveError::ImpossibleState => 62,
+            ReceiveError::Profile => 64u8,
+        };
+        write!(f, "refused with {number}")
     }
 }
 
-fn reply(rt: &impl Print, x: Reply) -> io::Result<()> {
-    match x {
-        Reply::Nothing => say(rt, b"no response"),
-        Reply::Response(reported) => {
-            let response = reported.response;
-            let status = response.status;
-            let map = response.acknowledgments;
-            let missing = reported.missing;
-            say(rt, b"response of status ")?;
-            say_number(rt, status_number(status) as u64)?;
-            say(rt, b", map of ")?;
-            say_number(rt, map.bit_count as u64)?;
-            say(rt, b", missing ")?;
-            say_number(rt, missing.count as u64)?;
-            say(rt, b", first ")?;
-            say_number(rt, missing.first as u64)
+#[derive(Clone, Copy)]
+struct Asked(Option<Reported>);
+
+impl fmt::Display for Asked {
+    fn fmt<W: fmt::Write>(&self, f: &mut fmt::Formatter<W>) -> fmt::Result {
+        match self.0 {
+            None => write!(f, "no response"),
+            Some(reported) => {
+                let response = reported.response;
+                let status = status_number(response.status);
+                let entries = response.acknowledgments.bit_count;
+                let count = reported.missing.count;
+                let first = reported.missing.first;
+                write!(
+                    f,
+                    "response of status {status}, map of {entries}, missing {count}, first {first}"
+                )
+            }
         }
     }
 }
 
-pub fn received(rt: &impl Print, answer: ReceiveAnswer) -> io::Result<()> {
-    match answer {
-        ReceiveAnswer::Refused(e) => refusal(rt, e)?,
-        ReceiveAnswer::Received(reception) => {
-            let response = reception.response;
-            let message = reception.message;
-            reply(rt, response)?;
-            match message {
-                Message::Nothing => say(rt, b"")?,
-                Message::Octets(n) => {
-                    say(rt, b", message of ")?;
-                    say_number(rt, n as u64)?;
-                    say(rt, b" octets")?;
+#[derive(Clone, Copy)]
+pub struct Received(pub Result<Reception, ReceiveError>);
+
+impl fmt::Display for Received {
+    fn fmt<W: fmt::Write>(&self, f: &mut fmt::Formatter<W>) -> fmt::Result {
+        match self.0 {
+            Err(e) => write!(f, "{}", Refusal(e)),
+            Ok(reception) => {
+                write!(f, "{}", Asked(reception.response))?;
+                match reception.message {
+                    None => Ok(()),
+                    Some(n) => write!(f, ", message of {n} octets"),
                 }
             }
         }
     }
-    say(rt, b"\n")
 }
 
-pub fn advanced(rt: &impl Print, answer: AdvanceAnswer) -> io::Result<()> {
-    match answer {
-        AdvanceAnswer::Refused(e) => refusal(rt, e)?,
-        AdvanceAnswer::Advanced(response) => reply(rt, response)?,
+#[derive(Clone, Copy)]
+pub struct Advanced(pub Result<Option<Reported>, ReceiveError>);
+
+impl fmt::Display for Advanced {
+    fn fmt<W: fmt::Write>(&self, f: &mut fmt::Formatter<W>) -> fmt::Result {
+        match self.0 {
+            Err(e) => write!(f, "{}", Refusal(e)),
+            Ok(response) => write!(f, "{}", Asked(response)),
+        }
     }
-    say(rt, b"\n")
 }
 
-pub fn canceled(rt: &impl Print, answer: CancelAnswer) -> io::Result<()> {
-    match answer {
-        CancelAnswer::Refused(e) => refusal(rt, e)?,
-        CancelAnswer::Canceled => say(rt, b"canceled")?,
-    }
-    say(rt, b"\n")
-}
+// What cancel answers, and release.
+#[derive(Clone, Copy)]
+pub struct Canceled(pub Result<(), ReceiveError>);
 
-// A line that says whether something holds.
-pub fn holds(rt: &impl Print, what: &[u8], yes: bool) -> io::Result<()> {
-    say(rt, what)?;
-    if yes {
-        say(rt, b": yes\n")
-    } else {
-        say(rt, b": NO\n")
+impl fmt::Display for Canceled {
+    fn fmt<W: fmt::Write>(&self, f: &mut fmt::Formatter<W>) -> fmt::Result {
+        match self.0 {
+            Err(e) => write!(f, "{}", Refusal(e)),
+            Ok(()) => write!(f, "canceled"),
+        }
     }
 }

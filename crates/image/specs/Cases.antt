@@ -1,6 +1,7 @@
 -- The cases that numbers name: each case of an enum has a number (ABI), and a number is read by a table. A number past the table reads as
 -- the first case, which the strict test of an image then refuses. Assumes nothing.
 use Rattle.std.specs.Prelude.{◌≡◌, refl, Bool, true, false, List, [], ◌∷◌, ℕ, eqb, get_or}
+use Rattle.std.specs.Int.{from_bool}
 use Rattle.tsar.specs.Layout.{compression_number, window_number, status_number as crc_status_number}
 use Rattle.tsar.specs.declared.Compression.{Compression}
 use Rattle.tsar.specs.declared.Compression.TheVariants as compression
@@ -15,8 +16,7 @@ use Rattle.response.specs.declared.Status.{Status}
 use Rattle.response.specs.declared.Status.TheVariants as status
 
 abbrev pub flag_of : Bool → ℕ
-flag_of true = 1
-flag_of false = 0
+flag_of b = from_bool b
 
 pub flag_back : (b : Bool) → eqb (flag_of b) 1 ≡ b
 flag_back true = refl

@@ -1,8 +1,8 @@
 -- Values of one type, each spelled by w octets, one behind another: how they are spelled and read, the strict test of each, and the turns
 -- of the loops that do so. Assumes nothing.
-use Rattle.std.specs.Prelude.{◌≡◌, Bool, true, ◌&&◌, get_or, set}
+use Rattle.std.specs.Prelude.{◌≡◌, Bool, true, false, ◌&&◌, get_or, set}
 use Rattle.std.proofs.Math.Path.{refl, ap, ap₂}
-use Rattle.std.proofs.Common.{sym, ◌∙◌, add-one, length-take-le, take_all, take-suc-set, get_or-take, drop-drop}
+use Rattle.std.proofs.Common.{sym, ◌∙◌, ⊎_elim, eq-or-lt_of_le, add-one, length-take-le, take_all, take-suc-set, get_or-take, drop-drop}
 use mathlib.Core.List.{List, [], ◌∷◌, ◌++◌, append-nil, append_assoc}
 use Prim.Native.Nat.{ℕ, zero, suc, ◌+◌, ◌*◌, ◌≤◌, ◌<◌}
 use Rattle.std.proofs.Math.Nat.{mul-suc}
@@ -111,6 +111,21 @@ pass_none ok w l = refl
 pub pass_turn : (ok : List ℕ → Bool) (w : ℕ) (l : List ℕ) (i : ℕ) (b t : Bool) → b ≡ all_pass ok w i l → t ≡ ok (drop (w * i) l) → (b && t) ≡ all_pass ok w (i + 1) l
 unfolding all_pass
 pass_turn ok w l i b t p q = rw (add-one, p, q)
+
+-- one that fails
+pub pass_fails : (ok : List ℕ → Bool) (w n : ℕ) (l : List ℕ) (i : ℕ) → i < n → ok (drop (w * i) l) ≡ false → all_pass ok w n l ≡ false
+unfolding all_pass
+pass_fails ok w zero l i h f = absurd (omega arith)
+pass_fails ok w (suc n) l i h f =
+    ⊎_elim (λ (e : i ≡ n). ap (λ (t : Bool). all_pass ok w n l && t) (ap (λ (k : ℕ). ok (drop (w * k) l)) (sym e) ∙ f) ∙ none (all_pass ok w n l))
+    (λ (q : i < n). ap (λ (t : Bool). t && ok (drop (w * n) l)) (pass_fails ok w n l i q f)) (eq-or-lt_of_le (le i n h))
+  where
+    none : (b : Bool) → (b && false) ≡ false
+    none true = refl
+    none false = refl
+
+    le : (i n : ℕ) → i < suc n → i ≤ n
+    le i n h = omega arith
 
 -- values that always pass
 pub pass_all : (ok : List ℕ → Bool) (w n : ℕ) (l : List ℕ) → ((i : ℕ) → i < n → ok (drop (w * i) l) ≡ true) → all_pass ok w n l ≡ true

@@ -86,6 +86,12 @@ pub record IsNumber (n : ℕ) (l : List ℕ) (x : ℕ) : Type 0 where
   pub reads : x ≡ number_of n l
   pub passes : spells (spell n) (number_of n) n l ≡ true
 
+-- of the octets that a list begins with
+pub number_read : (n : ℕ) (l : List ℕ) (x : ℕ) → x ≡ value (take n l) → spell n x ≡ take n l → IsNumber n l x
+unfolding spells
+number_read n l x p q =
+    record { reads = p; passes = same_eq (spell n (number_of n l)) (take n l) (ap (spell n) (sym p) ∙ q) }
+
 -- ---- numbers that code puts together of octets
 
 -- the octets from at + i on, n of them
@@ -106,10 +112,8 @@ listed n l e = sym (take_octets n 0 0 l (omega arith)) ∙ take_all n l (omega a
 -- a number whose octets were read one by one, the first at `at`
 pub number_at : (n at : ℕ) (l : List ℕ) (x : ℕ) → at + suc n ≤ length l → x ≡ value (get_or l at 0 ∷ octets_from n 1 at l) → spell (suc n) x ≡ get_or l at 0 ∷ octets_from n 1 at l
     → IsNumber (suc n) (drop at l) x
-unfolding spells
 number_at n at l x h p q =
     let e : take (suc n) (drop at l) ≡ get_or l at 0 ∷ octets_from n 1 at l =
     ap (take (suc n)) (drop-cons l at 0 (omega arith)) ∙ ap (λ (k : ℕ). get_or l at 0 ∷ take n (drop k l)) (sym (add-one at))
     ∙ ap (λ x. get_or l at 0 ∷ x) (take_octets n 1 at l (omega arith)) in
-    let r : x ≡ number_of (suc n) (drop at l) = p ∙ ap value (sym e) in
-    record { reads = r; passes = same_eq (spell (suc n) (number_of (suc n) (drop at l))) (take (suc n) (drop at l)) (ap (spell (suc n)) (sym r) ∙ q ∙ sym e) }
+    number_read (suc n) (drop at l) x (p ∙ ap value (sym e)) (q ∙ sym e)

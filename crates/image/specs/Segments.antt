@@ -1,14 +1,12 @@
 -- The layouts KIND (13 octets), SEGMENT (15) and HEAD (23), and their parts. What is absent is 0 in full width. Assumes nothing.
-use Rattle.std.specs.Prelude.{◌≡◌, refl, Bool, true, false, cond, ◌&&◌, List, [], ◌∷◌, ◌++◌, ℕ, ◌≤◌, ◌<◌, eqb, length, get_or, drop}
+use Rattle.std.specs.Prelude.{◌≡◌, refl, Bool, true, false, cond, ◌&&◌, List, [], ◌∷◌, ◌++◌, ℕ, ◌≤◌, ◌<◌, eqb, length, get_or, drop, Option, Some, None}
 use Rattle.std.proofs.Common.{sym, ap, ap₂, ◌∙◌, arith, eq-eqb, length-append, drop-drop, get_or-drop}
+use Rattle.std.specs.Int.{from_bool}
+use Rattle.std.specs.Option.{is_some, unwrap_or}
 use Rattle.octets.specs.Octets.{same_octets}
 use Rattle.tsar.specs.Layout.{type_number, compression_number, window_number, status_number as crc_status_number}
 use Rattle.tsar.specs.Writing.{length_in, crc_in}
 use Rattle.tsar.specs.declared.OptionalServices.{OptionalServices}
-use Rattle.tsar.specs.declared.MessageLength.{MessageLength}
-use Rattle.tsar.specs.declared.MessageLength.TheVariants.{Unstated, Stated}
-use Rattle.tsar.specs.declared.Services.{Services}
-use Rattle.tsar.specs.declared.Services.TheVariants as services
 use Rattle.tsar.specs.declared.MessageCrc.{MessageCrc}
 use Rattle.tsar.specs.declared.MessageCrc.TheVariants as crc
 use Rattle.tsar.specs.declared.SegmentKind.{SegmentKind}
@@ -25,34 +23,32 @@ and_true false = refl
 
 -- ---- a stated length, 3 octets: flag, number
 
-abbrev pub stated_flag : MessageLength → ℕ
-stated_flag Unstated = 0
-stated_flag (Stated n) = 1
+abbrev pub stated_flag : Option ℕ → ℕ
+stated_flag m = from_bool (is_some m)
 
-abbrev pub stated_or0 : MessageLength → ℕ
-stated_or0 Unstated = 0
-stated_or0 (Stated n) = n
+abbrev pub stated_or0 : Option ℕ → ℕ
+stated_or0 m = unwrap_or m 0
 
-unfoldable pub length_image : MessageLength → List ℕ
+unfoldable pub length_image : Option ℕ → List ℕ
 length_image m = stated_flag m ∷ spell 2 (stated_or0 m)
 
-abbrev pub length_from : ℕ → ℕ → MessageLength
-length_from flag n = cond (eqb flag 0) Unstated (Stated n)
+abbrev pub length_from : ℕ → ℕ → Option ℕ
+length_from flag n = cond (eqb flag 0) None (Some n)
 
-unfoldable pub length_of : List ℕ → MessageLength
+unfoldable pub length_of : List ℕ → Option ℕ
 length_of l = length_from (get_or l 0 0) (number_of 2 (drop 1 l))
 
-abbrev pub LengthFits : MessageLength → Type 0
+abbrev pub LengthFits : Option ℕ → Type 0
 LengthFits m = stated_or0 m < 65536
 
-length_wide : (m : MessageLength) → length (length_image m) ≡ 3
+length_wide : (m : Option ℕ) → length (length_image m) ≡ 3
 unfolding length_image spell
 length_wide m = refl
 
-length_back : (m : MessageLength) → LengthFits m → (rest : List ℕ) → length_of (length_image m ++ rest) ≡ m
+length_back : (m : Option ℕ) → LengthFits m → (rest : List ℕ) → length_of (length_image m ++ rest) ≡ m
 unfolding length_image length_of
-length_back Unstated f rest = refl
-length_back (Stated n) f rest = ap Stated (number_back 2 n rest f)
+length_back None f rest = refl
+length_back (Some n) f rest = ap Some (number_back 2 n rest f)
 
 pub length_layout : Layout length_image length_of 3 LengthFits
 length_layout = record { wide = λ m f. length_wide m; reads_wide = λ l. length_wide (length_of l); back = length_back }
@@ -90,83 +86,83 @@ optional_layout = record { wide = λ s f. optional_wide s; reads_wide = λ l. op
 
 -- ---- services, 4 octets: flag, services
 
-unfoldable pub services_image : Services → List ℕ
-services_image services.Absent = 0 ∷ 0 ∷ 0 ∷ 0 ∷ []
-services_image (services.SpelledOut s) = 1 ∷ optional_image s
+unfoldable pub services_image : Option OptionalServices → List ℕ
+services_image None = 0 ∷ 0 ∷ 0 ∷ 0 ∷ []
+services_image (Some s) = 1 ∷ optional_image s
 
-abbrev pub services_from : ℕ → OptionalServices → Services
-services_from flag s = cond (eqb flag 0) services.Absent (services.SpelledOut s)
+abbrev pub services_from : ℕ → OptionalServices → Option OptionalServices
+services_from flag s = cond (eqb flag 0) None (Some s)
 
-unfoldable pub services_of : List ℕ → Services
+unfoldable pub services_of : List ℕ → Option OptionalServices
 services_of l = services_from (get_or l 0 0) (optional_of (drop 1 l))
 
-abbrev pub AnyServices : Services → Type 0
+abbrev pub AnyServices : Option OptionalServices → Type 0
 AnyServices s = Unit {0}
 
-services_wide : (s : Services) → length (services_image s) ≡ 4
+services_wide : (s : Option OptionalServices) → length (services_image s) ≡ 4
 unfolding services_image optional_image
-services_wide services.Absent = refl
-services_wide (services.SpelledOut s) = refl
+services_wide None = refl
+services_wide (Some s) = refl
 
-services_back : (s : Services) → AnyServices s → (rest : List ℕ) → services_of (services_image s ++ rest) ≡ s
+services_back : (s : Option OptionalServices) → AnyServices s → (rest : List ℕ) → services_of (services_image s ++ rest) ≡ s
 unfolding services_image services_of
-services_back services.Absent f rest = refl
-services_back (services.SpelledOut s) f rest = ap services.SpelledOut (optional_back s tt rest)
+services_back None f rest = refl
+services_back (Some s) f rest = ap Some (optional_back s tt rest)
 
 pub services_layout : Layout services_image services_of 4 AnyServices
 services_layout = record { wide = λ s f. services_wide s; reads_wide = λ l. services_wide (services_of l); back = services_back }
 
 -- ---- a CRC, 5 octets: 0 absent, 1 CRC-16, 2 CRC-24; value
 
-abbrev pub crc_number : MessageCrc → ℕ
-crc_number crc.Absent = 0
-crc_number (crc.Crc16 v) = 1
-crc_number (crc.Crc24 v) = 2
+abbrev pub crc_number : Option MessageCrc → ℕ
+crc_number None = 0
+crc_number (Some (crc.Crc16 v)) = 1
+crc_number (Some (crc.Crc24 v)) = 2
 
-abbrev pub crc_value : MessageCrc → ℕ
-crc_value crc.Absent = 0
-crc_value (crc.Crc16 v) = v
-crc_value (crc.Crc24 v) = v
+abbrev pub crc_value : Option MessageCrc → ℕ
+crc_value None = 0
+crc_value (Some (crc.Crc16 v)) = v
+crc_value (Some (crc.Crc24 v)) = v
 
-unfoldable pub crc_image : MessageCrc → List ℕ
+unfoldable pub crc_image : Option MessageCrc → List ℕ
 crc_image c = crc_number c ∷ spell 4 (crc_value c)
 
 -- a CRC-16 is the last two octets of the value
-abbrev pub crc_from : ℕ → ℕ → ℕ → MessageCrc
-crc_from tag v16 v24 = cond (eqb tag 0) crc.Absent (cond (eqb tag 1) (crc.Crc16 v16) (crc.Crc24 v24))
+abbrev pub crc_from : ℕ → ℕ → ℕ → Option MessageCrc
+crc_from tag v16 v24 = cond (eqb tag 0) None (cond (eqb tag 1) (Some (crc.Crc16 v16)) (Some (crc.Crc24 v24)))
 
-unfoldable pub crc_of : List ℕ → MessageCrc
+unfoldable pub crc_of : List ℕ → Option MessageCrc
 crc_of l = crc_from (get_or l 0 0) (number_of 2 (drop 3 l)) (number_of 4 (drop 1 l))
 
-abbrev pub CrcFits : MessageCrc → Type 0
-CrcFits crc.Absent = Unit {0}
-CrcFits (crc.Crc16 v) = v < 65536
-CrcFits (crc.Crc24 v) = v < 4294967296
+abbrev pub CrcFits : Option MessageCrc → Type 0
+CrcFits None = Unit {0}
+CrcFits (Some (crc.Crc16 v)) = v < 65536
+CrcFits (Some (crc.Crc24 v)) = v < 4294967296
 
-crc_wide : (c : MessageCrc) → length (crc_image c) ≡ 5
+crc_wide : (c : Option MessageCrc) → length (crc_image c) ≡ 5
 unfolding crc_image spell
 crc_wide c = refl
 
-crc_back : (c : MessageCrc) → CrcFits c → (rest : List ℕ) → crc_of (crc_image c ++ rest) ≡ c
+crc_back : (c : Option MessageCrc) → CrcFits c → (rest : List ℕ) → crc_of (crc_image c ++ rest) ≡ c
 unfolding crc_image crc_of spell value_from
-crc_back crc.Absent f rest = refl
-crc_back (crc.Crc16 v) f rest = ap crc.Crc16 (let e : number_of 2 (drop 3 (1 ∷ spell 4 v ++ rest)) ≡ v = omega arith in e)
-crc_back (crc.Crc24 v) f rest = ap crc.Crc24 (number_back 4 v rest f)
+crc_back None f rest = refl
+crc_back (Some (crc.Crc16 v)) f rest = ap (λ x. Some (crc.Crc16 x)) (let e : number_of 2 (drop 3 (1 ∷ spell 4 v ++ rest)) ≡ v = omega arith in e)
+crc_back (Some (crc.Crc24 v)) f rest = ap (λ x. Some (crc.Crc24 x)) (number_back 4 v rest f)
 
 pub crc_layout : Layout crc_image crc_of 5 CrcFits
 crc_layout = record { wide = λ c f. crc_wide c; reads_wide = λ l. crc_wide (crc_of l); back = crc_back }
 
 -- ---- KIND, 13 octets: kind, stated length, services of a Begin, CRC of an End
 
-abbrev pub services_in : SegmentKind → Services
+abbrev pub services_in : SegmentKind → Option OptionalServices
 services_in (Begin n s) = s
-services_in (Continue n) = services.Absent
-services_in (End n c) = services.Absent
+services_in (Continue n) = None
+services_in (End n c) = None
 
 unfoldable pub kind_image : SegmentKind → List ℕ
 kind_image k = type_number k ∷ (length_image (length_in k) ++ (services_image (services_in k) ++ crc_image (crc_in k)))
 
-abbrev pub kind_from : ℕ → MessageLength → Services → MessageCrc → SegmentKind
+abbrev pub kind_from : ℕ → Option ℕ → Option OptionalServices → Option MessageCrc → SegmentKind
 kind_from tag n s c = cond (eqb tag 0) (Begin n s) (cond (eqb tag 1) (Continue n) (End n c))
 
 unfoldable pub kind_of : List ℕ → SegmentKind
@@ -184,7 +180,7 @@ pub record KindFits (k : SegmentKind) : Type 0 where
 parts_layout : Layout (spell_both spell_octet (spell_both length_image (spell_both services_image crc_image))) (read_both read_octet 1 (read_both length_of 3 (read_both services_of 4 crc_of))) 13 (λ x. AnyOctet x.0 × (LengthFits x.1.0 × (AnyServices x.1.1.0 × CrcFits x.1.1.1)))
 parts_layout = both_layout octet_layout (both_layout length_layout (both_layout services_layout crc_layout))
 
-abbrev kind_parts : SegmentKind → ℕ × (MessageLength × (Services × MessageCrc))
+abbrev kind_parts : SegmentKind → ℕ × (Option ℕ × (Option OptionalServices × Option MessageCrc))
 kind_parts k = (type_number k, (length_in k, (services_in k, crc_in k)))
 
 kind_same : (k : SegmentKind) → kind_from (type_number k) (length_in k) (services_in k) (crc_in k) ≡ k

@@ -1,26 +1,28 @@
 -- The layout of four words of marks, 32 octets: the words one behind another, entry 0 being the lowest bit of the first. Assumes nothing.
-use Rattle.std.specs.Prelude.{◌≡◌, Bool, true, ◌&&◌, length, take, drop}
+use Rattle.std.specs.Prelude.{◌≡◌, Bool, true, ◌&&◌, length, get_or, take, drop}
 use Rattle.std.proofs.Math.Path.{refl}
 use Rattle.std.proofs.Common.{sym, ap, ap₂, ◌∙◌, arith, length-drop, drop-drop}
-use mathlib.Core.List.{List, ◌++◌}
+use mathlib.Core.List.{List, [], ◌∷◌, ◌++◌}
 use Prim.Native.Nat.{ℕ, ◌+◌, ◌-◌, ◌≤◌, ◌<◌}
 use Rattle.std.proofs.Math.Seq.{sets}
 use Rattle.octets.specs.Octets.{same_octets}
 use Rattle.words.specs.declared.Words.{Words}
-use Rattle.image.specs.Spelling.{spells, Layout, spell_both, read_both, both_layout, both_spells, as_layout, put_next}
+use Rattle.words.specs.Laws.{list_of_four}
+use Rattle.image.specs.Spelling.{spells, Layout, spell_both, read_both, both_layout, both_spells, put_next}
 use Rattle.image.specs.Numbers.{spell, number_of, number_layout}
 
 unfoldable pub marks_image : Words → List ℕ
-marks_image w = spell 8 w.a ++ (spell 8 w.b ++ (spell 8 w.c ++ spell 8 w.d))
+marks_image w = spell 8 (get_or w.words 0 0) ++ (spell 8 (get_or w.words 1 0) ++ (spell 8 (get_or w.words 2 0) ++ spell 8 (get_or w.words 3 0)))
 
 unfoldable pub marks_of : List ℕ → Words
-marks_of l = record { a = number_of 8 l; b = number_of 8 (drop 8 l); c = number_of 8 (drop 16 l); d = number_of 8 (drop 24 l) }
+marks_of l = record { words = number_of 8 l ∷ number_of 8 (drop 8 l) ∷ number_of 8 (drop 16 l) ∷ number_of 8 (drop 24 l) ∷ [] }
 
 pub record MarksFit (w : Words) : Type 0 where
-  pub first : w.a < 18446744073709551616
-  pub second : w.b < 18446744073709551616
-  pub third : w.c < 18446744073709551616
-  pub fourth : w.d < 18446744073709551616
+  pub four : length w.words ≡ 4
+  pub first : get_or w.words 0 0 < 18446744073709551616
+  pub second : get_or w.words 1 0 < 18446744073709551616
+  pub third : get_or w.words 2 0 < 18446744073709551616
+  pub fourth : get_or w.words 3 0 < 18446744073709551616
 
 abbrev Fit : ℕ → Type 0
 Fit x = x < 18446744073709551616
@@ -35,10 +37,10 @@ abbrev four_words : Layout (spell_both (spell 8) (spell_both (spell 8) (spell_bo
 four_words = both_layout (number_layout 8) three_words
 
 abbrev words_from : ℕ × (ℕ × (ℕ × ℕ)) → Words
-words_from x = record { a = x.0; b = x.1.0; c = x.1.1.0; d = x.1.1.1 }
+words_from x = record { words = x.0 ∷ x.1.0 ∷ x.1.1.0 ∷ x.1.1.1 ∷ [] }
 
 abbrev words_to : Words → ℕ × (ℕ × (ℕ × ℕ))
-words_to w = (w.a, (w.b, (w.c, w.d)))
+words_to w = (get_or w.words 0 0, (get_or w.words 1 0, (get_or w.words 2 0, get_or w.words 3 0)))
 
 marks_reads : (l : List ℕ) → marks_of l ≡ words_from (read_both (number_of 8) 8 (read_both (number_of 8) 8 (read_both (number_of 8) 8 (number_of 8))) l)
 unfolding marks_of
@@ -54,8 +56,12 @@ marks_wide w = refl
 pub marks_layout : Layout marks_image marks_of 32 MarksFit
 unfolding marks_image
 marks_layout =
-    as_layout four_words words_from words_to (λ w. refl) marks_image marks_of MarksFit (λ w. refl) marks_reads (λ w f. (f.first, (f.second, (f.third, f.fourth))))
-    (λ l. marks_wide (marks_of l))
+    record {
+      wide = λ w f. marks_wide w;
+      reads_wide = λ l. marks_wide (marks_of l);
+      back = λ w f rest. marks_reads (marks_image w ++ rest) ∙ ap words_from (four_words.back (words_to w) (f.first, (f.second, (f.third, f.fourth))) rest)
+          ∙ ap (λ (l : List ℕ). record { words = l }) (sym (list_of_four w.words f.four));
+    }
 
 abbrev passes : List ℕ → Bool
 passes l = spells (spell 8) (number_of 8) 8 l
@@ -78,13 +84,13 @@ marks_spells l h p q r s =
 
 -- written one word after another
 module _ (l : List ℕ) (at : ℕ) (w : Words) (x y z t : List ℕ) where
-  pub marks_put : x ≡ sets l at (spell 8 w.a) → y ≡ sets x (at + 8) (spell 8 w.b) → z ≡ sets y (at + 16) (spell 8 w.c) → t ≡ sets z (at + 24) (spell 8 w.d)
+  pub marks_put : x ≡ sets l at (spell 8 (get_or w.words 0 0)) → y ≡ sets x (at + 8) (spell 8 (get_or w.words 1 0)) → z ≡ sets y (at + 16) (spell 8 (get_or w.words 2 0)) → t ≡ sets z (at + 24) (spell 8 (get_or w.words 3 0))
       → t ≡ sets l at (marks_image w)
   unfolding marks_image spell
   marks_put p q r s =
-      let a : List ℕ = spell 8 w.a in
-      let b : List ℕ = spell 8 w.b in
-      let c : List ℕ = spell 8 w.c in
+      let a : List ℕ = spell 8 (get_or w.words 0 0) in
+      let b : List ℕ = spell 8 (get_or w.words 1 0) in
+      let c : List ℕ = spell 8 (get_or w.words 2 0) in
       let two : y ≡ sets l at (a ++ b) = put_next l at a b x y (at + 8) 8 p refl refl q in
       let three : z ≡ sets l at (a ++ b ++ c) = put_next l at (a ++ b) c y z (at + 16) 16 two refl refl r in
-      put_next l at (a ++ b ++ c) (spell 8 w.d) z t (at + 24) 24 three refl refl s
+      put_next l at (a ++ b ++ c) (spell 8 (get_or w.words 3 0)) z t (at + 24) 24 three refl refl s

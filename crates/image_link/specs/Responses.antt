@@ -1,5 +1,5 @@
 -- The layout RESPONSE, 41 octets: transaction, status, number of entries, marks, support list. Assumes nothing.
-use Rattle.std.specs.Prelude.{◌≡◌, Bool, cond, eqb, get_or, drop}
+use Rattle.std.specs.Prelude.{◌≡◌, Bool, cond, eqb, get_or, drop, Option, Some, None}
 use Rattle.std.proofs.Math.Path.{refl, ap}
 use Rattle.std.proofs.Common.{◌∙◌, arith, drop-drop, get_or-drop}
 use mathlib.Core.List.{List, [], ◌∷◌, ◌++◌}
@@ -9,8 +9,7 @@ use Rattle.std.proofs.Math.Seq.{sets}
 use Rattle.words.specs.declared.Words.{Words}
 use Rattle.response.specs.Responses.{status_number}
 use Rattle.response.specs.declared.Status.{Status}
-use Rattle.response.specs.declared.SupportList.{SupportList}
-use Rattle.response.specs.declared.SupportList.TheVariants as support
+use Rattle.response.specs.declared.OptionalServicesSupport.{OptionalServicesSupport}
 use Rattle.response.specs.declared.Response.{Response}
 use Rattle.image.specs.Spelling.{spells, Layout, spell_octet, read_octet, AnyOctet, octet_layout, spell_both, read_both, both_layout, as_layout, put_next}
 use Rattle.image.specs.Numbers.{spell, number_of, number_layout, length_spell}
@@ -19,30 +18,30 @@ use Rattle.image_link.specs.Marks.{marks_image, marks_of, MarksFit, marks_wide, 
 
 -- ---- a support list, 5 octets: flag; compression, encryption, window, CRC
 
-unfoldable pub support_image : SupportList → List ℕ
-support_image support.Absent = 0 ∷ 0 ∷ 0 ∷ 0 ∷ 0 ∷ []
-support_image (support.Listed s) = 1 ∷ flag_of s.compression ∷ flag_of s.encryption ∷ flag_of s.acknowledgment_window ∷ flag_of s.crc ∷ []
+unfoldable pub support_image : Option OptionalServicesSupport → List ℕ
+support_image None = 0 ∷ 0 ∷ 0 ∷ 0 ∷ 0 ∷ []
+support_image (Some s) = 1 ∷ flag_of s.compression ∷ flag_of s.encryption ∷ flag_of s.acknowledgment_window ∷ flag_of s.crc ∷ []
 
-abbrev pub support_from : ℕ → ℕ → ℕ → ℕ → ℕ → SupportList
+abbrev pub support_from : ℕ → ℕ → ℕ → ℕ → ℕ → Option OptionalServicesSupport
 support_from flag a b c d =
-    cond (eqb flag 0) support.Absent (support.Listed (record { compression = eqb a 1; encryption = eqb b 1; acknowledgment_window = eqb c 1; crc = eqb d 1 }))
+    cond (eqb flag 0) None (Some (record { compression = eqb a 1; encryption = eqb b 1; acknowledgment_window = eqb c 1; crc = eqb d 1 }))
 
-unfoldable pub support_of : List ℕ → SupportList
+unfoldable pub support_of : List ℕ → Option OptionalServicesSupport
 support_of l = support_from (get_or l 0 0) (get_or l 1 0) (get_or l 2 0) (get_or l 3 0) (get_or l 4 0)
 
-abbrev pub AnySupport : SupportList → Type 0
+abbrev pub AnySupport : Option OptionalServicesSupport → Type 0
 AnySupport s = Unit {0}
 
-support_wide : (s : SupportList) → length (support_image s) ≡ 5
+support_wide : (s : Option OptionalServicesSupport) → length (support_image s) ≡ 5
 unfolding support_image
-support_wide support.Absent = refl
-support_wide (support.Listed s) = refl
+support_wide None = refl
+support_wide (Some s) = refl
 
-support_back : (s : SupportList) → AnySupport s → (rest : List ℕ) → support_of (support_image s ++ rest) ≡ s
+support_back : (s : Option OptionalServicesSupport) → AnySupport s → (rest : List ℕ) → support_of (support_image s ++ rest) ≡ s
 unfolding support_image support_of
-support_back support.Absent f rest = refl
-support_back (support.Listed s) f rest =
-    ap support.Listed (λ i.
+support_back None f rest = refl
+support_back (Some s) f rest =
+    ap Some (λ i.
     record {
       compression = flag_back s.compression i;
       encryption = flag_back s.encryption i;
@@ -77,7 +76,7 @@ pub record ResponseFits (r : Response) : Type 0 where
   pub marks : MarksFit r.acknowledgments.received
 
 abbrev Parts : Type 0
-Parts = ℕ × (ℕ × (ℕ × (Words × SupportList)))
+Parts = ℕ × (ℕ × (ℕ × (Words × Option OptionalServicesSupport)))
 
 abbrev spell_parts : Parts → List ℕ
 spell_parts = spell_both spell_octet (spell_both spell_octet (spell_both (spell 2) (spell_both marks_image support_image)))

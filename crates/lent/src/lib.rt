@@ -5,6 +5,7 @@
 // output on entry and on exit. These are the step function step_of (crates/delivery, specs/Calls) of which demand 3 is proved (proofs/Theorem,
 // demand3): a list of lent calls goes through the steps that demand 3 speaks of, so its statement is carried over to the lent calls as it
 // stands.
+// They look alike, as document 01's form has them: thin functions that take what is lent apart.
 #![tactic(auto)]
 
 ghost use Rattle.std.specs.Prelude.{◌≡◌};
@@ -14,7 +15,7 @@ ghost use Rattle.receiver.specs.Advance.{advance_of, cancel_of, release_of};
 ghost use Rattle.receiver.specs.Says.{received, advanced, canceled};
 
 use link::{HigherLayerProtocol, MobileIdentity};
-use receiver::{AdvanceAnswer, CancelAnswer, ReceiveAnswer, Receiver};
+use receiver::{ReceiveError, Receiver, Reception, Reported};
 use tsar::Segment;
 
 // A receiver that the firmware keeps in one place and lends to each call.
@@ -34,7 +35,7 @@ impl LentReceiver {
         monotonic_ms: u64,
         store: &mut [u8],
         output: &mut [u8],
-    ) -> ReceiveAnswer
+    ) -> Result<Reception, ReceiveError>
         ensures { received (record { answer = result; receiver = self.new.receiver }) store.new output.new ≡ receive_of (interval_of self.old.receiver) self.old.receiver (record { peer = peer; protocol = protocol; segment = segment; octets = «data».now; unparsed = unparsed_octets; reading = monotonic_ms }) store.old output.old }
     {
         let receiver = self.receiver;
@@ -52,7 +53,11 @@ impl LentReceiver {
         out.answer
     }
 
-    pub fn advance(&mut self, monotonic_ms: u64, store: &mut [u8]) -> AdvanceAnswer
+    pub fn advance(
+        &mut self,
+        monotonic_ms: u64,
+        store: &mut [u8],
+    ) -> Result<Option<Reported>, ReceiveError>
         ensures { advanced (record { answer = result; receiver = self.new.receiver }) store.new ≡ advance_of self.old.receiver store.old monotonic_ms }
     {
         let receiver = self.receiver;
@@ -61,7 +66,7 @@ impl LentReceiver {
         out.answer
     }
 
-    pub fn cancel(&mut self, monotonic_ms: u64, store: &mut [u8]) -> CancelAnswer
+    pub fn cancel(&mut self, monotonic_ms: u64, store: &mut [u8]) -> Result<(), ReceiveError>
         ensures { canceled (record { answer = result; receiver = self.new.receiver }) store.new ≡ cancel_of self.old.receiver store.old monotonic_ms }
     {
         let receiver = self.receiver;
@@ -70,7 +75,7 @@ impl LentReceiver {
         out.answer
     }
 
-    pub fn release(&mut self, monotonic_ms: u64, store: &mut [u8]) -> CancelAnswer
+    pub fn release(&mut self, monotonic_ms: u64, store: &mut [u8]) -> Result<(), ReceiveError>
         ensures { canceled (record { answer = result; receiver = self.new.receiver }) store.new ≡ release_of self.old.receiver store.old monotonic_ms }
     {
         let receiver = self.receiver;

@@ -12,7 +12,7 @@ const MAX_WIDTH: u8 = 63;
 const SEGMENTED_CARRIER_BITS: u8 = 0xc0;
 
 // A peer: kind, width and value.
-#[derive(Clone, Copy)]
+#[derive(Clone, Copy, Debug, PartialEq, Eq)]
 pub struct MobileIdentity {
     pub kind: u8,
     pub width: u8,
@@ -20,7 +20,7 @@ pub struct MobileIdentity {
 }
 
 // A protocol, each with an octet.
-#[derive(Clone, Copy)]
+#[derive(Clone, Copy, Debug, PartialEq, Eq)]
 pub enum HigherLayerProtocol {
     Segmented(u8),
     CarrierSpecific(u8),
@@ -32,26 +32,13 @@ impl MobileIdentity {
     pub fn refused(self) -> bool
         ensures { result ≡ identity_refused self }
     {
-        let width = self.width;
-        if MAX_WIDTH < width {
-            return true;
-        }
-        if self.value == 0 {
-            return true;
-        }
-        1u64 << width <= self.value
+        MAX_WIDTH < self.width || self.value == 0 || 1u64 << self.width <= self.value
     }
 
     pub fn same(self, other: MobileIdentity) -> bool
         ensures { result ≡ same_identity self other }
     {
-        if self.kind != other.kind {
-            return false;
-        }
-        if self.width != other.width {
-            return false;
-        }
-        self.value == other.value
+        self == other
     }
 }
 
@@ -70,22 +57,6 @@ impl HigherLayerProtocol {
     pub fn same(self, other: HigherLayerProtocol) -> bool
         ensures { result ≡ same_protocol self other }
     {
-        match self {
-            HigherLayerProtocol::Segmented(a) => match other {
-                HigherLayerProtocol::Segmented(b) => a == b,
-                HigherLayerProtocol::CarrierSpecific(_) => false,
-                HigherLayerProtocol::Other(_) => false,
-            },
-            HigherLayerProtocol::CarrierSpecific(a) => match other {
-                HigherLayerProtocol::Segmented(_) => false,
-                HigherLayerProtocol::CarrierSpecific(b) => a == b,
-                HigherLayerProtocol::Other(_) => false,
-            },
-            HigherLayerProtocol::Other(a) => match other {
-                HigherLayerProtocol::Segmented(_) => false,
-                HigherLayerProtocol::CarrierSpecific(_) => false,
-                HigherLayerProtocol::Other(b) => a == b,
-            },
-        }
+        self == other
     }
 }

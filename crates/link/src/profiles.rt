@@ -15,31 +15,34 @@ const REASSEMBLY_2_MS: u64 = 120_000;
 
 const SEGMENT_INTERVAL_2_MS: u64 = 150_000;
 
+#[tactic(auto, unfolding(crate::specs::Profile::known_profile))]
 pub fn known_profile(profile: u8) -> bool
     ensures { result ≡ known_profile profile }
 {
-    if profile == PROFILE_1 {
-        return true;
-    }
-    profile == PROFILE_2
+    profile == PROFILE_1 || profile == PROFILE_2
 }
 
+// One for each machine: a function over both would take the machine as an argument, which is no plainer.
 // How long a receiver of this profile waits for the next segment.
+#[tactic(auto, unfolding(crate::specs::Profile::receiver_interval))]
 pub fn receiver_interval(profile: u8) -> u64
     ensures { result ≡ receiver_interval profile }
 {
     if profile == PROFILE_2 {
-        return REASSEMBLY_2_MS;
+        REASSEMBLY_2_MS
+    } else {
+        REASSEMBLY_MS
     }
-    REASSEMBLY_MS
 }
 
 // How long a sender of this profile waits after a submission.
+#[tactic(auto, unfolding(crate::specs::Profile::sender_interval))]
 pub fn sender_interval(profile: u8) -> u64
     ensures { result ≡ sender_interval profile }
 {
     if profile == PROFILE_2 {
-        return SEGMENT_INTERVAL_2_MS;
+        SEGMENT_INTERVAL_2_MS
+    } else {
+        SEGMENT_INTERVAL_MS
     }
-    SEGMENT_INTERVAL_MS
 }

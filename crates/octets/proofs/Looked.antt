@@ -1,14 +1,18 @@
 -- How far a comparison looks: at none where the lengths differ, at all of the same list, and else up to and with the first octet that differs.
 -- Any two lists are in one of the three cases, so these laws leave no other figure. Assumes nothing.
 use mathlib.Core.Path.{◌≡◌, refl, sym, ap, ◌∙◌}
-use mathlib.Core.Bool.{Bool, true, false, cond}
+use mathlib.Core.Bool.{Bool, true, false, not, cond}
 use mathlib.Core.List.{List, [], ◌∷◌}
-use Prim.Native.Nat.{ℕ, zero, suc, ◌≤◌, ◌<◌}
+use Prim.Native.Nat.{ℕ, zero, suc, ◌+◌, ◌≤◌, ◌<◌}
 use native.Mathlib.Omega.{arith}
 use borrow.Author.Tests.{eq-eqb, ne_eqb}
-use lib.Dec.{eqb}
+use lib.Dec.{eqb, ltb}
 use lib.ListN.{length, get_or, take}
-use Rattle.octets.specs.Compare.{until_other, looked_at}
+use Rattle.std.specs.Prelude.{Option, Some, None}
+use Rattle.std.specs.Option.{MatchOption}
+use Rattle.std.specs.List.{zip, position, position_or_len}
+use Rattle.octets.specs.Octets.{same_octets}
+use Rattle.octets.specs.Compare.{until_other, looked_at, compared_of}
 
 until_le : (a b : List ℕ) → until_other a b ≤ length a
 unfolding until_other
@@ -41,7 +45,7 @@ unfolding looked_at
 looked_none a b n = rw (ne_eqb (length a) (length b) n)
 
 -- where they do not, up to the first that differs
-looked_until : (a b : List ℕ) → length a ≡ length b → looked_at a b ≡ until_other a b
+pub looked_until : (a b : List ℕ) → length a ≡ length b → looked_at a b ≡ until_other a b
 unfolding looked_at
 looked_until a b e = rw (eq-eqb (length a) (length b) e)
 
@@ -61,3 +65,35 @@ looked_same a b e = ap (looked_at a) (sym e) ∙ looked_until a a refl ∙ until
 -- as long, the first i the same and another octet at i: at i + 1
 pub looked_other : (a b : List ℕ) (i : ℕ) → length a ≡ length b → i < length a → take i a ≡ take i b → (get_or a i 0 ≡ get_or b i 0 → ⊥) → looked_at a b ≡ suc i
 looked_other a b i l h e n = looked_until a b l ∙ until_at i a b h (omega arith) e n
+
+-- ---- what `position` finds
+
+-- a pair of octets that differ
+abbrev pub differs : ℕ × ℕ → Bool
+differs p = not (eqb p.0 p.1)
+
+-- the place of the first pair that differs, or the number of pairs
+abbrev first_other : List ℕ → List ℕ → ℕ
+first_other a b = position_or_len differs (zip a b)
+
+same_first : (a b : List ℕ) → length a ≡ length b → same_octets a b ≡ not (ltb (first_other a b) (length (zip a b)))
+unfolding same_octets
+same_first [] [] h = refl
+same_first [] (y ∷ ys) h = absurd (omega arith)
+same_first (x ∷ xs) [] h = absurd (omega arith)
+same_first (x ∷ xs) (y ∷ ys) h = grind (arith, same_first xs ys (omega arith))
+
+until_first : (a b : List ℕ) → length a ≡ length b → until_other a b ≡ cond (ltb (first_other a b) (length (zip a b))) (first_other a b + 1) (length a)
+unfolding until_other
+until_first [] [] h = refl
+until_first [] (y ∷ ys) h = absurd (omega arith)
+until_first (x ∷ xs) [] h = absurd (omega arith)
+until_first (x ∷ xs) (y ∷ ys) h = grind (arith, until_first xs ys (omega arith))
+
+-- of two lists as long: the same where it finds none, and else another octet at the place
+pub compared_first : (a b : List ℕ) (r : Option ℕ) → r ≡ position differs (zip a b) → length a ≡ length b → MatchOption r (compared_of a b ≡ record { same = true; looked = length a }) (λ i. compared_of a b ≡ record { same = false; looked = i + 1 })
+compared_first a b r e h = go (ltb (first_other a b) (length (zip a b))) (same_first a b h) (looked_until a b h ∙ until_first a b h) e
+  where
+    go : (t : Bool) → same_octets a b ≡ not t → looked_at a b ≡ cond t (first_other a b + 1) (length a) → r ≡ cond t (Some (first_other a b)) None → MatchOption r (compared_of a b ≡ record { same = true; looked = length a }) (λ i. compared_of a b ≡ record { same = false; looked = i + 1 })
+    go true s l q = rw q (λ i. record { same = s i; looked = l i })
+    go false s l q = rw q (λ i. record { same = s i; looked = l i })

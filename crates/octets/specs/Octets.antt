@@ -1,10 +1,12 @@
 -- What wiping and comparing lent octets means, and the laws of both. Octets are a list of numbers, and nothing here asks that it be long enough.
 -- Assumes nothing.
-use Rattle.std.specs.Prelude.{◌≡◌, refl, Bool, true, false, ◌&&◌, List, [], ◌∷◌, ◌++◌, ℕ, zero, suc, ◌+◌, ◌-◌, ◌≤◌, ◌<◌, min, eqb, length, get_or, drop, set, replicate}
-use Rattle.std.proofs.Common.{sym, ap, ap₂, ◌∙◌, true≢false, ⊎_elim, append-nil, arith, eqb-true, eq-eqb, length-append, length-drop, drop_of_length-le, drop_at, drop-cons, drop-drop, get_or-drop}
+use Rattle.std.specs.Prelude.{◌≡◌, refl, Bool, true, false, List, ◌∷◌, ◌++◌, ℕ, zero, suc, ◌+◌, ◌-◌, ◌≤◌, ◌<◌, min, length, get_or, drop, set, replicate}
+use Rattle.std.proofs.Common.{sym, ap, ap₂, ◌∙◌, true≢false, ⊎_elim, append-nil, arith, length-append, length-drop, drop_of_length-le, drop_at, drop-cons, drop-drop, get_or-drop}
 use Rattle.std.proofs.Math.Nat.{min-eq_left, min-eq_right}
 use Rattle.std.proofs.lemmas.List.{length-replicate, get_or-replicate, set_at}
 use Rattle.std.proofs.Math.ListN.{get_or-append, get_or-eq_default}
+use Rattle.std.specs.Str.{bytes_eq}
+use Rattle.std.proofs.lemmas.Slice.Eq.{bytes_eq-Decides}
 use Rattle.octets.specs.Laws.{le_or_lt}
 
 -- the octets with the first n of them 0, as far as they go
@@ -13,10 +15,7 @@ wiped_to n l = replicate (min n (length l)) 0 ++ drop n l
 
 -- whether two lists are as long and hold the same numbers
 unfoldable pub same_octets : List ℕ → List ℕ → Bool
-same_octets [] [] = true
-same_octets [] (y ∷ ys) = false
-same_octets (x ∷ xs) [] = false
-same_octets (x ∷ xs) (y ∷ ys) = eqb x y && same_octets xs ys
+same_octets = bytes_eq
 
 -- ---- wiping
 
@@ -98,20 +97,12 @@ wiped_fitting n l =
 -- the same octets are the same list
 pub same_true : (a b : List ℕ) → same_octets a b ≡ true → a ≡ b
 unfolding same_octets
-same_true [] [] h = refl
-same_true [] (y ∷ ys) h = absurd (true≢false (sym h))
-same_true (x ∷ xs) [] h = absurd (true≢false (sym h))
-same_true (x ∷ xs) (y ∷ ys) h = go (eqb x y) refl h (same_true xs ys)
-  where
-    go : (t : Bool) → eqb x y ≡ t → (t && same_octets xs ys) ≡ true → (same_octets xs ys ≡ true → xs ≡ ys) → x ∷ xs ≡ y ∷ ys
-    go true e q rest = ap₂ {C = List ℕ} ◌∷◌ (eqb-true x y e) (rest q)
-    go false e q rest = absurd (true≢false (sym q))
+same_true a b = (bytes_eq-Decides a b).0
 
 -- and the same list has the same octets
 pub same_refl : (a : List ℕ) → same_octets a a ≡ true
 unfolding same_octets
-same_refl [] = refl
-same_refl (x ∷ xs) = rw (eq-eqb x x refl, same_refl xs)
+same_refl a = (bytes_eq-Decides a a).1 refl
 
 -- the same, of two lists that are known to be equal
 pub same_eq : (a b : List ℕ) → a ≡ b → same_octets a b ≡ true

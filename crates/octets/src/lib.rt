@@ -1,11 +1,12 @@
 // Lent octets: copied to a place, wiped, compared. Each call is total: a copy and a wipe leave out what would lie past a slice's end.
 #![tactic(auto)]
 
-ghost use Rattle.std.specs.Prelude.{◌≡◌, min, ◌-◌};
+ghost use Rattle.std.specs.Prelude.{◌≡◌};
 ghost use Rattle.std.proofs.lemmas.List.Edits.{sets};
 ghost use Rattle.octets.specs.Octets.{wiped_to, same_octets};
 ghost use Rattle.octets.specs.Compare.{compared_of};
 
+// (Two facts of one comparison, no value that may be missing: README names both.)
 // What a comparison found: whether both are the same, and how many octets of each it looked at.
 #[derive(Clone, Copy)]
 pub struct Compared {
@@ -13,57 +14,39 @@ pub struct Compared {
     pub looked: usize,
 }
 
-// The smaller of two numbers.
-fn smaller(a: usize, b: usize) -> usize
-    ensures { result ≡ min a b }
-{
-    if a <= b { a } else { b }
-}
-
-// How many of len octets lie from at on.
-fn room(len: usize, at: usize) -> usize
-    ensures { result ≡ len - at }
-{
-    if at <= len { len - at } else { 0 }
-}
-
 // src into dst, from at on, as far as dst goes.
+#[tactic(auto, using(crate::proofs::Written::sets_part))]
 pub fn put(dst: &mut [u8], at: usize, src: &[u8])
     ensures { dst.new ≡ sets dst.old at src.now }
 {
-    let n = smaller(src.len(), room(dst.len(), at));
-    let mut i: usize = 0;
-    while i < n {
-        dst[at + i] = src[i];
-        i += 1;
-    }
+    let start = at.min(dst.len());
+    let n = src.len().min(dst.len() - start);
+    dst[start..start + n].copy_from_slice(&src[..n]);
 }
 
 // The first n octets of store become 0, as far as it goes.
+#[tactic(auto, using(std::proofs::lemmas::List::drop_min), unfolding(crate::specs::Octets::wiped_to))]
 pub fn wipe(store: &mut [u8], n: usize)
     ensures { store.new ≡ wiped_to n store.old }
 {
-    let m = smaller(n, store.len());
-    let mut i: usize = 0;
-    while i < m {
-        store[i] = 0;
-        i += 1;
-    }
+    let end = n.min(store.len());
+    store[..end].fill(0);
 }
 
-// Whether a and b are as long and hold the same octets.
+// Whether a and b are as long and hold the same octets. Tried: a == b, which calls core's groups_equal for each slot of a record that is read,
+// 256 times: 2 µs more in every call on a receiver's record (docs/SPEED.md).
+#[tactic(auto, unfolding(crate::specs::Octets::same_octets))]
 pub fn same(a: &[u8], b: &[u8]) -> bool
     ensures { result ≡ same_octets a.now b.now }
 {
-    if a.len() != b.len() {
+    let n = a.len();
+    if b.len() != n {
         return false;
     }
-    let mut i: usize = 0;
-    while i < a.len() {
+    for i in 0..n {
         if a[i] != b[i] {
             return false;
         }
-        i += 1;
     }
     true
 }
@@ -73,26 +56,20 @@ pub fn same(a: &[u8], b: &[u8]) -> bool
 pub fn compare(a: &[u8], b: &[u8]) -> Compared
     ensures { result ≡ compared_of a.now b.now }
 {
-    let n = a.len();
-    if n != b.len() {
+    if a.len() != b.len() {
         return Compared {
             same: false,
             looked: 0,
         };
     }
-    let mut i: usize = 0;
-    while i < n {
-        if a[i] != b[i] {
-            let looked = i + 1;
-            return Compared {
-                same: false,
-                looked,
-            };
-        }
-        i += 1;
-    }
-    Compared {
-        same: true,
-        looked: i,
+    match a.iter().zip(b).position(|(x, y)| x != y) {
+        Some(i) => Compared {
+            same: false,
+            looked: i + 1,
+        },
+        None => Compared {
+            same: true,
+            looked: a.len(),
+        },
     }
 }

@@ -3,7 +3,7 @@ use Prim.Native.Nat.{ℕ, ◌≤◌, ◌<◌}
 use mathlib.Core.Path.{◌≡◌, sym, ap, ◌∙◌}
 use mathlib.Core.Logic.{⊎_elim}
 use mathlib.Core.List.{List}
-use mathlib.Core.Option.{none, some}
+use Rattle.std.specs.Prelude.{Some, None}
 use native.Mathlib.Omega.{arith}
 use lib.ListN.{length}
 use Rattle.octets.specs.Laws.{le_or_lt}
@@ -14,7 +14,7 @@ use Rattle.orders.proofs.Written.{orders_of_lem, too_few, too_many, no_order, to
 
 module _ (n k : ℕ) (output : List ℕ) where
   abbrev Refused : Refusal → Type 0
-  Refused r = write_order_of n k output ≡ record { refused = some r; output = output }
+  Refused r = write_order_of n k output ≡ record { refused = Some r; output = output }
 
   few : n < 2 → Refused (28, 0)
   few h = sym (too_few n k output h)
@@ -37,12 +37,12 @@ module _ (n k : ℕ) (output : List ℕ) where
   short o h = sym (too_short n k output o.0 o.1 (omega (arith, o.2, orders_of_lem n (omega (arith, o.0)))) h)
 
   -- what is refused is not passed
-  not_none : (r : Refusal) → Refused r → (write_order_of n k output).refused ≡ none → ⊥
+  not_none : (r : Refusal) → Refused r → (write_order_of n k output).refused ≡ None → ⊥
   not_none r e f =
-      let g : some r ≡ none = sym (ap (λ (x : Ordered). x.refused) e) ∙ f in
+      let g : Some r ≡ None = sym (ap (λ (x : Ordered). x.refused) e) ∙ f in
       let z : ◌≡◌ {A = ℕ} 0 1 = cc in omega arith
 
-  only : (write_order_of n k output).refused ≡ none → HasOrder n k × (n ≤ length output)
+  only : (write_order_of n k output).refused ≡ None → HasOrder n k × (n ≤ length output)
   only e =
       ⊎_elim
       (λ (a : 2 ≤ n).

@@ -2,7 +2,7 @@
 use Prim.Native.Nat.{ℕ, zero, suc, ◌-◌, ◌≤◌, ◌<◌}
 use mathlib.Core.Path.{◌≡◌, sym, ap, ap₂, ◌∙◌}
 use mathlib.Core.List.{List, ◌∷◌, ◌++◌}
-use mathlib.Core.Option.{Option, none, some}
+use Rattle.std.specs.Prelude.{Option, Some, None}
 use native.Mathlib.Omega.{arith}
 use lib.ListN.{length, take, drop}
 use lib.Seq.{take_at, drop_at, length-take-le}
@@ -20,9 +20,9 @@ orders_of_lem (suc m) h = let e : suc m - 1 ≡ m = omega arith in ap factorial 
 
 module _ (n k : ℕ) (output : List ℕ) where
   abbrev Refuses : Refusal → Type 0
-  Refuses r = record { refused = some r; output = output } ≡ write_order_of n k output
+  Refuses r = record { refused = Some r; output = output } ≡ write_order_of n k output
 
-  by_refusal : (r : Refusal) → refusal (order_rows n k output) ≡ some r → Refuses r
+  by_refusal : (r : Refusal) → refusal (order_rows n k output) ≡ Some r → Refuses r
   unfolding write_order_of
   by_refusal r e = ap (λ (o : Option Refusal). ordered_as o n k output) (sym e)
 
@@ -42,7 +42,7 @@ module _ (n k : ℕ) (output : List ℕ) where
       let c : k < orders_of n = omega (arith, orders_of_lem n (omega arith)) in
       by_refusal (61, 0) (rw (le-ltb n 2 a, le-ltb 6 n b, lt-leb (orders_of n) k c, lt-ltb (length output) n l))
 
-  pub passes : 2 ≤ n → n ≤ 6 → k < factorial (n - 1) → n ≤ length output → write_order_of n k output ≡ record { refused = none; output = order_of n k ++ drop n output }
+  pub passes : 2 ≤ n → n ≤ 6 → k < factorial (n - 1) → n ≤ length output → write_order_of n k output ≡ record { refused = None; output = order_of n k ++ drop n output }
   unfolding write_order_of
   passes a b h l =
       let c : k < orders_of n = omega (arith, orders_of_lem n (omega arith)) in
@@ -65,15 +65,6 @@ ordered m k rest zs e =
     let f : take (suc m - 1) (count_from 1 m ++ rest) ≡ count_from 1 m = ap (λ (i : ℕ). take i (count_from 1 m ++ rest)) z ∙ take_at (count_from 1 m) rest m (count_length 1 m) in
     let g : drop (suc m - 1) (count_from 1 m ++ rest) ≡ rest = ap (λ (i : ℕ). drop i (count_from 1 m ++ rest)) z ∙ drop_at (count_from 1 m) rest m (count_length 1 m) in
     ap₂ {C = List ℕ} (λ (a b : List ℕ). 0 ∷ (a ++ b)) (e ∙ ap (λ (l : List ℕ). arranged (length l) l k) f ∙ ap (λ (i : ℕ). arranged i (count_from 1 m) k) (count_length 1 m)) g
-
--- the list that is lent to arrange
-pub lent : (n : ℕ) (output ys : List ℕ) → 0 < n → n ≤ length output → ys ≡ count_from 0 (length (take (n - 0) (drop 0 output))) → length (take (n - 1) (drop 1 (put_mid 0 (n - 0) output ys))) ≡ n - 1
-lent zero output ys a h e = absurd (omega arith)
-lent (suc m) output ys a h e =
-    let z : suc m - 1 ≡ m = omega arith in
-    ap (λ (l : List ℕ). length (take (suc m - 1) (drop 1 l))) (counted m output ys h e)
-    ∙ ap (λ (i : ℕ). length (take i (count_from 1 m ++ drop (suc m) output))) z
-    ∙ ap length (take_at (count_from 1 m) (drop (suc m) output) m (count_length 1 m)) ∙ count_length 1 m ∙ sym z
 
 pub written : (n k : ℕ) (output ys zs : List ℕ) → 0 < n → n ≤ length output → ys ≡ count_from 0 (length (take (n - 0) (drop 0 output)))
     → zs ≡ arranged (length (take (n - 1) (drop 1 (put_mid 0 (n - 0) output ys)))) (take (n - 1) (drop 1 (put_mid 0 (n - 0) output ys))) k

@@ -1,10 +1,8 @@
 -- Document 02, 2026-10: what write_order answers. The delivery orders of a train of n segments, Begin first and the others in every order, by number;
 -- and the refusals in order.
-use Rattle.std.specs.Prelude.{ℕ, zero, suc, ◌*◌, ◌/◌, ◌%◌, Bool, ◌||◌, List, [], ◌∷◌, ◌++◌, length, get_or, drop, leb, ltb}
-use Rattle.std.proofs.Math.Option.{Option, none, some}
+use Rattle.std.specs.Prelude.{ℕ, zero, suc, ◌*◌, ◌/◌, ◌%◌, Bool, ◌||◌, List, [], ◌∷◌, ◌++◌, length, get_or, drop, leb, ltb, Option, Result, Some, None, Ok, Err}
+use Rattle.orders.specs.declared.OrderError.{OrderError}
 use Rattle.tsar.specs.Rows.{Refusal, refusal}
-use Rattle.orders.specs.declared.OrderAnswer.{OrderAnswer}
-use Rattle.orders.specs.declared.OrderAnswer.TheVariants as answered
 use Rattle.orders.specs.Numbers.{order_number}
 
 -- in how many orders m things stand: m!
@@ -51,17 +49,17 @@ pub record Ordered : Type 0 where
 
 -- the order in front, the octets behind it as they were; refused, all as they were
 abbrev pub ordered_as : Option Refusal → ℕ → ℕ → List ℕ → Ordered
-ordered_as none n k output = record { refused = none; output = order_of n k ++ drop n output }
-ordered_as (some r) n k output = record { refused = some r; output = output }
+ordered_as None n k output = record { refused = None; output = order_of n k ++ drop n output }
+ordered_as (Some r) n k output = record { refused = Some r; output = output }
 
 unfoldable pub write_order_of : ℕ → ℕ → List ℕ → Ordered
 write_order_of n k output = ordered_as (refusal (order_rows n k output)) n k output
 
 -- ---- what write_order's answer says: each answer has a number of its own (Statement, OneAnswer)
 
-abbrev pub refused_by : OrderAnswer → Option Refusal
-refused_by answered.Written = none
-refused_by (answered.Refused e) = some (order_number e)
+abbrev pub refused_by : Result Unit OrderError → Option Refusal
+refused_by (Ok tt) = None
+refused_by (Err e) = Some (order_number e)
 
-abbrev pub ordered_by : OrderAnswer → List ℕ → Ordered
+abbrev pub ordered_by : Result Unit OrderError → List ℕ → Ordered
 ordered_by r output = record { refused = refused_by r; output = output }

@@ -1,7 +1,6 @@
 -- Document 02, 2026-10: what is shown of the orders and of the call: of `write_order_of`, which the contract cites, and of `order_of` and `orders_of` in it.
-use Rattle.std.specs.Prelude.{ℕ, ◌+◌, ◌≤◌, ◌<◌, ◌≡◌, cond, List, [], ◌∷◌, ◌++◌, length, get_or, drop, eqb, ltb}
-use Rattle.std.proofs.Math.Option.{none, some}
-use Rattle.orders.specs.declared.OrderAnswer.{OrderAnswer}
+use Rattle.std.specs.Prelude.{ℕ, ◌+◌, ◌≤◌, ◌<◌, ◌≡◌, cond, List, [], ◌∷◌, ◌++◌, length, get_or, drop, eqb, ltb, Result, Some, None}
+use Rattle.orders.specs.declared.OrderError.{OrderError}
 use Rattle.orders.specs.Orders.{orders_of, order_of, write_order_of, ordered_by}
 
 -- ---- every order, exactly once, in lexicographic order, numbered from 0
@@ -46,12 +45,12 @@ HasOrder n k = (2 ≤ n) × (n ≤ 6) × (k < orders_of n)
 -- the order is written exactly when there is one and the output has n octets; 28 where there is none, whatever the output; else 61.
 -- What is refused changes no octet.
 pub record Refusals (n k : ℕ) (output : List ℕ) : Type 0 where
-  pub writes : HasOrder n k → n ≤ length output → write_order_of n k output ≡ record { refused = none; output = order_of n k ++ drop n output }
-  pub writes_only : (write_order_of n k output).refused ≡ none → HasOrder n k × (n ≤ length output)
-  pub too_few : n < 2 → write_order_of n k output ≡ record { refused = some (28, 0); output = output }
-  pub too_many : 6 < n → write_order_of n k output ≡ record { refused = some (28, 0); output = output }
-  pub no_number : orders_of n ≤ k → write_order_of n k output ≡ record { refused = some (28, 0); output = output }
-  pub too_short : HasOrder n k → length output < n → write_order_of n k output ≡ record { refused = some (61, 0); output = output }
+  pub writes : HasOrder n k → n ≤ length output → write_order_of n k output ≡ record { refused = None; output = order_of n k ++ drop n output }
+  pub writes_only : (write_order_of n k output).refused ≡ None → HasOrder n k × (n ≤ length output)
+  pub too_few : n < 2 → write_order_of n k output ≡ record { refused = Some (28, 0); output = output }
+  pub too_many : 6 < n → write_order_of n k output ≡ record { refused = Some (28, 0); output = output }
+  pub no_number : orders_of n ≤ k → write_order_of n k output ≡ record { refused = Some (28, 0); output = output }
+  pub too_short : HasOrder n k → length output < n → write_order_of n k output ≡ record { refused = Some (61, 0); output = output }
 
 abbrev pub EveryCall : Type 0
 EveryCall = (n k : ℕ) (output : List ℕ) → Refusals n k output
@@ -59,4 +58,4 @@ EveryCall = (n k : ℕ) (output : List ℕ) → Refusals n k output
 -- ---- the contract leaves no answer open: two answers that it takes for the same, with their outputs, are the same
 
 abbrev pub OneAnswer : Type 0
-OneAnswer = (r s : OrderAnswer) (o p : List ℕ) → ordered_by r o ≡ ordered_by s p → (r ≡ s) × (o ≡ p)
+OneAnswer = (r s : Result Unit OrderError) (o p : List ℕ) → ordered_by r o ≡ ordered_by s p → (r ≡ s) × (o ≡ p)

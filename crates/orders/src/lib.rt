@@ -5,16 +5,10 @@ ghost use Rattle.std.specs.Prelude.{◌≡◌, ◌∷◌, ◌≤◌, ◌<◌, le
 ghost use Rattle.orders.specs.Orders.{factorial, without, arranged, count_from, write_order_of, ordered_by};
 
 // Why no order is written: 28 and 61.
-#[derive(Clone, Copy)]
+#[derive(Clone, Copy, Debug, PartialEq, Eq)]
 pub enum OrderError {
     Number,
     Output,
-}
-
-#[derive(Clone, Copy)]
-pub enum OrderAnswer {
-    Written,
-    Refused(OrderError),
 }
 
 const MIN_SEGMENTS: usize = 2;
@@ -36,10 +30,8 @@ fn count_up(places: &mut [u8])
     requires { length places.old ≤ 6 }
     ensures { places.new ≡ count_from 0 (length places.old) }
 {
-    let mut i: usize = 0;
-    while i < places.len() {
-        places[i] = i as u8;
-        i += 1;
+    for (i, place) in places.iter_mut().enumerate() {
+        *place = i as u8;
     }
 }
 
@@ -48,13 +40,7 @@ fn bring(left: &mut [u8], d: usize)
     requires { d < length left.old }
     ensures { left.new ≡ get_or left.old d 0 ∷ without left.old d }
 {
-    let first = left[d];
-    let mut j = d;
-    while 0 < j {
-        left[j] = left[j - 1];
-        j -= 1;
-    }
-    left[0] = first;
+    left[..=d].rotate_right(1);
 }
 
 // Puts those left into their order with a number.
@@ -63,32 +49,24 @@ fn arrange(left: &mut [u8], number: usize)
     ensures { left.new ≡ arranged (length left.old) left.old number }
 {
     let mut rest = number;
-    let mut i: usize = 0;
-    while i < left.len() {
+    for i in 0..left.len() {
         let f = factorial(left.len() - i - 1);
         bring(&mut left[i..], rest / f);
-        rest = rest % f;
-        i += 1;
+        rest %= f;
     }
 }
 
 // Writes the sequence numbers of a train of 2 to 6 segments in the order with a number; a refusal changes no octet.
-pub fn write_order(segments: usize, number: usize, output: &mut [u8]) -> OrderAnswer
+pub fn write_order(segments: usize, number: usize, output: &mut [u8]) -> Result<(), OrderError>
     ensures { ordered_by result output.new ≡ write_order_of segments number output.old }
 {
-    if segments < MIN_SEGMENTS {
-        return OrderAnswer::Refused(OrderError::Number);
-    }
-    if MAX_SEGMENTS < segments {
-        return OrderAnswer::Refused(OrderError::Number);
-    }
-    if factorial(segments - 1) <= number {
-        return OrderAnswer::Refused(OrderError::Number);
+    if segments < MIN_SEGMENTS || MAX_SEGMENTS < segments || factorial(segments - 1) <= number {
+        return Err(OrderError::Number);
     }
     if output.len() < segments {
-        return OrderAnswer::Refused(OrderError::Output);
+        return Err(OrderError::Output);
     }
     count_up(&mut output[0..segments]);
     arrange(&mut output[1..segments], number);
-    OrderAnswer::Written
+    Ok(())
 }

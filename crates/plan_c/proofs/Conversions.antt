@@ -3,7 +3,7 @@
 use mathlib.Core.Path.{◌≡◌, refl, sym, ap, ap₂, subst, ◌∙◌}
 use mathlib.Core.Bool.{Bool, true, false, not}
 use mathlib.Core.List.{List, [], ◌∷◌}
-use mathlib.Core.Option.{Option, none, some}
+use Rattle.std.specs.Prelude.{Option, Some, None}
 use Prim.Native.Nat.{ℕ, ◌≤◌, ◌<◌}
 use lib.Dec.{ltb}
 use lib.ListN.{length}
@@ -36,7 +36,7 @@ dialect_number Every = 1
 module _ (heads : List ℕ) (count : ℕ) (joined message : List ℕ) (budget version ceiling : ℕ) (plan : List ℕ) where
   -- ---- its own tests
 
-  pub convert_refused : (dialect : ℕ) (r : Refusal) → refusal (convert_tests heads dialect plan) ≡ some r
+  pub convert_refused : (dialect : ℕ) (r : Refusal) → refusal (convert_tests heads dialect plan) ≡ Some r
       → plan_call (code_of r) plan ≡ convert_call heads count joined message budget version ceiling dialect plan
   unfolding convert_call
   convert_refused dialect r e =
@@ -45,7 +45,7 @@ module _ (heads : List ℕ) (count : ℕ) (joined message : List ℕ) (budget ve
       unless_refused o (λ n. plan_call n plan) (check_gives (convert_of (dialect_of dialect) (proposal heads count joined message budget version ceiling)) plan))
       (sym e)
 
-  pub convert_passed : (dialect : ℕ) (hs : List SegmentHead) (d : Dialect) → refusal (convert_tests heads dialect plan) ≡ none → hs ≡ heads_of heads → d ≡ dialect_of dialect
+  pub convert_passed : (dialect : ℕ) (hs : List SegmentHead) (d : Dialect) → refusal (convert_tests heads dialect plan) ≡ None → hs ≡ heads_of heads → d ≡ dialect_of dialect
       → check_gives
       (convert_of d (record { heads = hs; count = count; joined = joined; message = message; budget = budget; version = version; ceiling = ceiling })) plan
       ≡ convert_call heads count joined message budget version ceiling dialect plan
@@ -63,7 +63,7 @@ module _ (heads : List ℕ) (count : ℕ) (joined message : List ℕ) (budget ve
       (sym e)
 
   -- the tests of catkhize_try_from_frozen come first, whatever the dialect
-  pub tests_first : (dialect : ℕ) (r : Refusal) → refusal (frozen_tests heads plan) ≡ some r → convert_call heads count joined message budget version ceiling dialect plan ≡ plan_call (code_of r) plan
+  pub tests_first : (dialect : ℕ) (r : Refusal) → refusal (frozen_tests heads plan) ≡ Some r → convert_call heads count joined message budget version ceiling dialect plan ≡ plan_call (code_of r) plan
   tests_first dialect r e =
       sym (convert_refused dialect r (refusal_append (frozen_tests heads plan) ((ltb 1 dialect, unnamed) ∷ []) ∙ ap (λ (o : Option Refusal). or_else o (refusal ((ltb 1 dialect, unnamed) ∷ []))) e))
 
@@ -89,7 +89,7 @@ module _ (heads : List ℕ) (count : ℕ) (joined message : List ℕ) (budget ve
         named BeginOnly = refl
         named Every = refl
 
-        go : (e : Dialect) → refusal (convert_tests heads (dialect_number e) plan) ≡ none → check_gives (convert_of e asked) plan ≡ convert_call heads count joined message budget version ceiling (dialect_number e) plan
+        go : (e : Dialect) → refusal (convert_tests heads (dialect_number e) plan) ≡ None → check_gives (convert_of e asked) plan ≡ convert_call heads count joined message budget version ceiling (dialect_number e) plan
         go BeginOnly q = convert_passed 0 (heads_of heads) BeginOnly q refl refl
         go Every q = convert_passed 1 (heads_of heads) Every q refl refl
 
@@ -98,33 +98,33 @@ module _ (heads : List ℕ) (count : ℕ) (joined message : List ℕ) (budget ve
     gives d o e = sym (reads d) ∙ ap (λ (x : Option Refusal). check_gives (checked_as x (converted (other_dialect d) asked)) plan) e
 
     -- the frozen check's refusals
-    pub export_refused : (d : Dialect) (r : Refusal) → frozen_refusal asked ≡ some r → convert_call heads count joined message budget version ceiling (dialect_number d) plan ≡ plan_call (code_of r) plan
-    export_refused d r e = gives d (some r) (check_first d asked r e)
+    pub export_refused : (d : Dialect) (r : Refusal) → frozen_refusal asked ≡ Some r → convert_call heads count joined message budget version ceiling (dialect_number d) plan ≡ plan_call (code_of r) plan
+    export_refused d r e = gives d (Some r) (check_first d asked r e)
 
     -- a train in another pattern: 6656, which is 26, and the plan is left as it was
-    pub export_26 : (d : Dialect) → frozen_refusal asked ≡ none → (InDialect d asked → ⊥) → convert_call heads count joined message budget version ceiling (dialect_number d) plan ≡ plan_call 6656 plan
-    export_26 d ok no_such = gives d (some (26, 0)) (other_pattern d asked ok no_such)
+    pub export_26 : (d : Dialect) → frozen_refusal asked ≡ None → (InDialect d asked → ⊥) → convert_call heads count joined message budget version ceiling (dialect_number d) plan ≡ plan_call 6656 plan
+    export_26 d ok no_such = gives d (Some (26, 0)) (other_pattern d asked ok no_such)
 
     -- one with a segment that would be too long: 5120, which is 20
-    pub export_20 : frozen_refusal asked ≡ none → InDialect BeginOnly asked → TooLong asked → convert_call heads count joined message budget version ceiling 0 plan ≡ plan_call 5120 plan
-    export_20 ok fit long = gives BeginOnly (some (20, 0)) (over_budget asked ok fit long)
+    pub export_20 : frozen_refusal asked ≡ None → InDialect BeginOnly asked → TooLong asked → convert_call heads count joined message budget version ceiling 0 plan ≡ plan_call 5120 plan
+    export_20 ok fit long = gives BeginOnly (Some (20, 0)) (over_budget asked ok fit long)
 
-    written : (d : Dialect) → convert_refusal d asked ≡ none → convert_call heads count joined message budget version ceiling (dialect_number d) plan ≡ plan_written (frozen_plan (convert_of d asked).plan) plan
+    written : (d : Dialect) → convert_refusal d asked ≡ None → convert_call heads count joined message budget version ceiling (dialect_number d) plan ≡ plan_written (frozen_plan (convert_of d asked).plan) plan
     unfolding convert_of
-    written d e = gives d none e ∙ ap (λ (x : Option Refusal). plan_written (frozen_plan (checked_as x (converted (other_dialect d) asked)).plan) plan) (sym e)
+    written d e = gives d None e ∙ ap (λ (x : Option Refusal). plan_written (frozen_plan (checked_as x (converted (other_dialect d) asked)).plan) plan) (sym e)
 
     -- any other is converted, and its plan written
-    pub export_0 : frozen_refusal asked ≡ none → InDialect BeginOnly asked → (TooLong asked → ⊥)
+    pub export_0 : frozen_refusal asked ≡ None → InDialect BeginOnly asked → (TooLong asked → ⊥)
         → convert_call heads count joined message budget version ceiling 0 plan ≡ plan_written (frozen_plan (convert_of BeginOnly asked).plan) plan
     export_0 ok fit short = written BeginOnly (within_budget asked ok fit short)
 
-    pub export_1 : frozen_refusal asked ≡ none → InDialect Every asked
+    pub export_1 : frozen_refusal asked ≡ None → InDialect Every asked
         → convert_call heads count joined message budget version ceiling 1 plan ≡ plan_written (frozen_plan (convert_of Every asked).plan) plan
     export_1 ok fit = written Every (never_20 asked ok fit)
 
 -- ---- what a sender makes of it: it is not refused with 40, for it is a plan that the frozen check gives
 
-pub converted_made : (d : Dialect) (q : Proposal) → convert_refusal d q ≡ none
+pub converted_made : (d : Dialect) (q : Proposal) → convert_refusal d q ≡ None
     → (t : Terms) (k : ℕ) → identity_refused t.peer ≡ false → protocol_served t.protocol ≡ true → known_profile t.profile ≡ true → 1 ≤ t.version
     → try_new_of t (frozen_plan (convert_of d q).plan) q.message k ≡ placed (first_sender t (frozen_plan (convert_of d q).plan) k) (left (first_offer k))
 converted_made d q ok t k i s c v =

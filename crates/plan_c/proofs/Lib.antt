@@ -1,3 +1,4 @@
 pub mod Retired
 pub mod Conversions
 pub mod DeliveryOrders
+mod Refusals

@@ -2,7 +2,7 @@
 -- 1, where the plan has its room. Assumes nothing.
 use mathlib.Core.Path.{◌≡◌, refl, sym, ap, ◌∙◌}
 use mathlib.Core.List.{List}
-use mathlib.Core.Option.{none}
+use Rattle.std.specs.Prelude.{None}
 use Prim.Native.Nat.{ℕ, ◌≤◌, ◌<◌}
 use lib.ListN.{length}
 use borrow.Author.Tests.{le-ltb}
@@ -24,7 +24,7 @@ module _ (x : Spread) (message : List ℕ) (budget transaction version ceiling :
       → planning_export x message budget transaction 5 version ceiling plan ≡ planning_gives v plan
   given_5 v e = go x e
     where
-      passed : refusal (message_tests 5 plan) ≡ none
+      passed : refusal (message_tests 5 plan) ≡ None
       passed = refusal_pass (message_tests 5 plan) (le-ltb (length plan) 5958 room, (refl, tt))
 
       go : (y : Spread) → planning y (length message) budget transaction window.Exceptions version ceiling ≡ v → planning_export y message budget transaction 5 version ceiling plan ≡ planning_gives v plan

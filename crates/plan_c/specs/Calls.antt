@@ -1,16 +1,18 @@
 -- What catkhize_plan_message, catkhize_plan_even, catkhize_plan_segment, catkhize_try_from_frozen, catkhize_convert and catkhize_delivery_order give
 -- and leave in each lent buffer: the exports' own tests, then the definitions of the planners, of the frozen check, of the converter and of the
 -- delivery orders. A plan comes out as a sender's plan.
-use Rattle.std.specs.Prelude.{Bool, not, cond, List, [], ◌∷◌, ◌++◌, ℕ, ltb, length, get_or}
-use Rattle.std.proofs.Math.Option.{Option, none, some}
+use Rattle.std.specs.Prelude.{Bool, not, cond, List, [], ◌∷◌, ◌++◌, ℕ, ltb, length, get_or, Option, Some, None, Result, Ok, Err, ◌≡◌}
+use Rattle.segmentation.specs.declared.PlannedPart.{PlannedPart}
 use Rattle.std.proofs.lemmas.List.Edits.{sets}
 use Rattle.tsar.specs.Rows.{Refusal, refusal}
-use Rattle.segmentation.specs.Plan.{Planning, unsegmented, refused, segmented, plan_message, even_message}
+use Rattle.tsar.specs.declared.SegmentHead.{SegmentHead}
+use Rattle.tsar.specs.declared.AcknowledgmentWindow.{AcknowledgmentWindow}
+use Rattle.segmentation.specs.declared.MessagePlan.{MessagePlan}
+use Rattle.segmentation.specs.declared.PlanningError.{PlanningError}
+use Rattle.segmentation.specs.Plan.{Planning, unsegmented, refused, segmented, planned_by, plan_message, even_message}
 use Rattle.segmentation.specs.Frozen.{Proposal, Checked, no_plan, try_from_frozen}
 use Rattle.segmentation.specs.declared.SegmentedMessage.{SegmentedMessage}
 use Rattle.segmentation.specs.declared.FrozenMessage.{FrozenMessage}
-use Rattle.segmentation.specs.declared.PlannedSegment.{PlannedSegment}
-use Rattle.segmentation.specs.declared.PlannedSegment.TheVariants.{NoSegment, Segment}
 use Rattle.dialect.specs.declared.Dialect.{Dialect}
 use Rattle.dialect.specs.declared.Dialect.TheVariants.{BeginOnly, Every}
 use Rattle.dialect.specs.Convert.{convert_of}
@@ -34,7 +36,7 @@ pub record PlanCall : Type 0 where
 
 -- the plan that octets spell, if they spell one
 unfoldable pub spelled_by : List ℕ → Option Plan
-spelled_by plan = cond (plan_ok plan) (some (plan_of plan)) none
+spelled_by plan = cond (plan_ok plan) (Some (plan_of plan)) None
 
 -- a call as code makes it
 abbrev pub plan_call : ℕ → List ℕ → PlanCall
@@ -42,7 +44,7 @@ plan_call n plan = record { code = n; plan = plan; spelled = spelled_by plan }
 
 -- the plan p is written, and spelled then
 abbrev pub plan_written : Plan → List ℕ → PlanCall
-plan_written p plan = record { code = 0; plan = sets plan 0 (plan_image p); spelled = some p }
+plan_written p plan = record { code = 0; plan = sets plan 0 (plan_image p); spelled = Some p }
 
 -- ---- catkhize_plan_message and catkhize_plan_even
 
@@ -67,6 +69,10 @@ message_tests window plan = (ltb (length plan) 5958, short) ∷ (ltb 5 window, u
 unfoldable pub planning_call : Planning → ℕ → List ℕ → PlanCall
 planning_call answer window plan = unless_refused (refusal (message_tests window plan)) (λ n. plan_call n plan) (planning_gives answer plan)
 
+-- a call that hands the window to a planner, of whose results P holds: if these are what a definition says, so is the call
+abbrev pub Plans : (AcknowledgmentWindow → Result MessagePlan PlanningError → Type 0) → ℕ → List ℕ → PlanCall → Type 0
+Plans P window plan c = (p : Planning) → ((r : Result MessagePlan PlanningError) → P (window_of window) r → planned_by r ≡ p) → c ≡ planning_call p window plan
+
 abbrev pub plan_message_call : List ℕ → ℕ → ℕ → ℕ → ℕ → ℕ → List ℕ → PlanCall
 plan_message_call message budget transaction window version ceiling plan =
     planning_call (plan_message (length message) budget transaction (window_of window) version ceiling) window plan
@@ -85,9 +91,9 @@ abbrev pub part_call : ℕ → List ℕ → PartCall
 part_call n answer = record { code = n; answer = answer }
 
 -- segment i, as a call: 1 where there is none, else its head and where its data begin in the message
-abbrev pub segment_gives : PlannedSegment → List ℕ → PartCall
-segment_gives NoSegment answer = part_call 1 answer
-segment_gives (Segment p) answer = part_call 0 (sets answer 0 (part_image p.head p.offset))
+abbrev pub segment_gives : Option PlannedPart → List ℕ → PartCall
+segment_gives None answer = part_call 1 answer
+segment_gives (Some p) answer = part_call 0 (sets answer 0 (part_image p.head p.offset))
 
 -- a plan is 5958 octets and an answer 31
 abbrev pub segment_tests : List ℕ → List ℕ → List (Bool × Refusal)
@@ -100,8 +106,13 @@ plan_segment_call plan index answer =
 -- ---- catkhize_try_from_frozen
 
 abbrev pub frozen_gives : Option Refusal → FrozenMessage → List ℕ → PlanCall
-frozen_gives none f plan = plan_written (frozen_plan f) plan
-frozen_gives (some r) f plan = plan_call (code_of r) plan
+frozen_gives None f plan = plan_written (frozen_plan f) plan
+frozen_gives (Some r) f plan = plan_call (code_of r) plan
+
+-- what refuses, by a number of each refusal
+abbrev pub refused_by : {E : Type 0} → (E → Refusal) → Result Unit E → Option Refusal
+refused_by number (Ok tt) = None
+refused_by number (Err e) = Some (number e)
 
 abbrev pub check_gives : Checked → List ℕ → PlanCall
 check_gives k plan = frozen_gives k.refused k.plan plan
@@ -109,6 +120,10 @@ check_gives k plan = frozen_gives k.refused k.plan plan
 -- heads are 256 of 23 octets, and a plan is 5958
 abbrev pub frozen_tests : List ℕ → List ℕ → List (Bool × Refusal)
 frozen_tests heads plan = (ltb (length heads) 5888, short) ∷ (ltb (length plan) 5958, short) ∷ (not (heads_ok heads), misspelled) ∷ []
+
+-- the heads, or the number of the first test that holds
+abbrev pub read_of : List ℕ → List ℕ → Result (List SegmentHead) ℕ
+read_of heads plan = unless_refused (refusal (frozen_tests heads plan)) Err (Ok (heads_of heads))
 
 abbrev pub proposal : List ℕ → ℕ → List ℕ → List ℕ → ℕ → ℕ → ℕ → Proposal
 proposal heads count joined message budget version ceiling =
@@ -157,8 +172,8 @@ abbrev pub order_call : ℕ → List ℕ → OrderCall
 order_call n output = record { code = n; output = output }
 
 abbrev pub order_code : Option Refusal → ℕ
-order_code none = 0
-order_code (some r) = code_of r
+order_code None = 0
+order_code (Some r) = code_of r
 
 -- what write_order answers, as a call; it has no test of the exports' own, for 61 says that the output is short
 abbrev pub order_gives : Ordered → OrderCall

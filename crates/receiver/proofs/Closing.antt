@@ -4,7 +4,7 @@ use Prim.Native.Nat.{ℕ, ◌≤◌, ◌<◌}
 use mathlib.Core.Path.{◌≡◌, ap}
 use mathlib.Core.List.{List, [], ◌∷◌, ◌++◌}
 use mathlib.Core.Bool.{Bool, true, false, not, ◌||◌}
-use mathlib.Core.Option.{Option, none, some}
+use Rattle.std.specs.Prelude.{Option, Some, None}
 use lib.ListN.{length}
 use borrow.Author.Tests.{le-ltb, lt-ltb}
 use Rattle.tsar.specs.Rows.{Refusal, refusal, refusal_pass}
@@ -15,7 +15,7 @@ use Rattle.receiver.specs.Advance.{clock_rows, cancel_after, cancel_of, release_
 
 -- 'Release gives 60, 62 and 33 in that order, and 38 unless the receiver is Complete'; beside each, record and store are as before
 module _ (r : Receiver) (store : List ℕ) (now' : ℕ) where
-  gives : (n : Refusal) → refusal (release_rows r store now') ≡ some n → release_of r store now' ≡ refuses n r store []
+  gives : (n : Refusal) → refusal (release_rows r store now') ≡ Some n → release_of r store now' ≡ refuses n r store []
   unfolding release_of
   gives n e = ap (λ (v : Option Refusal). cancel_after v r store now') e
 
@@ -35,17 +35,17 @@ module _ (r : Receiver) (store : List ℕ) (now' : ℕ) where
 
 -- what holds where the clock's tests pass and 38's does
 module _ (r : Receiver) (store : List ℕ) (now' : ℕ) (room : store_octets ≤ length store) (ok : impossible r ≡ false) (l : r.progress.last_monotonic_ms ≤ now') where
-  closes_by : (b : Bool) → b ≡ true → cancel_after (refusal (clock_rows r store now' ++ ((not b, (38, 0)) ∷ []))) r store now' ≡ cancel_after none r store now'
+  closes_by : (b : Bool) → b ≡ true → cancel_after (refusal (clock_rows r store now' ++ ((not b, (38, 0)) ∷ []))) r store now' ≡ cancel_after None r store now'
   closes_by b e =
       ap (λ (v : Option Refusal). cancel_after v r store now')
       (refusal_pass (clock_rows r store now' ++ ((not b, (38, 0)) ∷ [])) (le-ltb (length store) store_octets room, (ok, (le-ltb now' r.progress.last_monotonic_ms l, (ap not e, tt)))))
 
   -- of a Complete receiver that is none of 62's, with room in the store and a reading that isn't below the last
-  pub releases : complete r.progress.state ≡ true → release_of r store now' ≡ cancel_after none r store now'
+  pub releases : complete r.progress.state ≡ true → release_of r store now' ≡ cancel_after None r store now'
   unfolding release_of
   releases e = closes_by (complete r.progress.state) e
 
   -- as a cancel is not of one that is AwaitingBegin or Receiving
-  pub cancels : (awaiting r.progress.state || receiving r.progress.state) ≡ true → cancel_of r store now' ≡ cancel_after none r store now'
+  pub cancels : (awaiting r.progress.state || receiving r.progress.state) ≡ true → cancel_of r store now' ≡ cancel_after None r store now'
   unfolding cancel_of
   cancels e = closes_by (awaiting r.progress.state || receiving r.progress.state) e

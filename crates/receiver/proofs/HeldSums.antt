@@ -1,18 +1,19 @@
 -- The held lengths, slot by slot and word by word: a held slot adds its length, one that isn't held adds nothing. Assumes nothing.
 use mathlib.Core.Path.{◌≡◌, refl, sym, ap, ap₂, ◌∙◌}
-use mathlib.Core.Bool.{Bool, true, false, cond, not, ◌&&◌, ◌||◌, or-false}
+use mathlib.Core.Bool.{Bool, true, false, not, ◌&&◌, ◌||◌, or-false}
 use mathlib.Core.List.{List}
-use Prim.Native.Nat.{ℕ, zero, suc, ◌+◌, ◌*◌, ◌/◌, ◌%◌, ◌^◌, ◌≤◌, ◌<◌}
-use native.Mathlib.Nat.{add-zero, add-suc, add_assoc, mul-one, mul-zero}
+use Prim.Native.Nat.{ℕ, zero, suc, ◌+◌, ◌*◌, ◌≤◌, ◌<◌}
+use native.Mathlib.Nat.{add-zero, add-suc, add_assoc}
+use native.Mathlib.Numerals.{add-one}
 use native.Mathlib.Omega.{arith}
 use borrow.Author.Tests.{leb-true, leb-false, lt-ltb, le-ltb}
 use lib.Dec.{leb, ltb}
 use Rattle.words.specs.Marks.{bit, all_below}
 use Rattle.words.specs.Search.{all_below_ext}
-use Rattle.words.specs.Sums.{bit_cond, bit_sum, sum_front}
+use Rattle.words.specs.Sums.{bit_sum, sum_front}
 use Rattle.words.specs.declared.Words.{Words}
 use Rattle.receiver.specs.Record.{held_length, sum_to}
-use Rattle.receiver.specs.Steps.{Added, Upto}
+use Rattle.receiver.specs.Steps.{Added, Upto, more}
 use Rattle.receiver.specs.declared.faults.HeldLengths.{HeldLengths}
 
 -- ---- sums and questions, one more and in two parts
@@ -79,23 +80,15 @@ pub added_none : (f : ℕ → ℕ) (x : HeldLengths) → Added f 0 x x
 unfolding sum_to all_below
 added_none f x = record { sum_is = sym (add-zero x.sum); over_is = sym (or-false x.over); small = omega arith }
 
-pub added_more : (f : ℕ → ℕ) (n m : ℕ) (x y : HeldLengths) → f n ≡ m → m ≤ 65535 → Added f n x y → Added f (suc n) x (record { sum = y.sum + m; over = y.over || ltb 255 m })
+pub added_more : (f : ℕ → ℕ) (n m : ℕ) (x y : HeldLengths) → m ≡ f n → m ≤ 65535 → Added f n x y → Added f (n + 1) x (more y m)
 added_more f n m x y e l u =
-    record {
-      sum_is = ap₂ (λ (a b : ℕ). a + b) u.sum_is (sym e) ∙ add_assoc x.sum (sum_to n f) (f n) ∙ ap (λ (k : ℕ). x.sum + k) (sym (sum_suc n f));
-      over_is = ap₂ {C = Bool} (λ (a b : Bool). a || b) u.over_is (past_not m ∙ ap (λ (k : ℕ). not (leb k 255)) (sym e))
+    rw add-one (record {
+      sum_is = ap₂ (λ (a b : ℕ). a + b) u.sum_is e ∙ add_assoc x.sum (sum_to n f) (f n) ∙ ap (λ (k : ℕ). x.sum + k) (sym (sum_suc n f));
+      over_is = ap₂ {C = Bool} (λ (a b : Bool). a || b) u.over_is (past_not m ∙ ap (λ (k : ℕ). not (leb k 255)) e)
           ∙ or_right x.over (not (all_below n (λ t. leb (f t) 255))) (not (leb (f n) 255))
           ∙ ap (λ (b : Bool). x.over || b) (not_both (all_below n (λ t. leb (f t) 255)) (leb (f n) 255) ∙ ap not (sym (all_suc n (λ t. leb (f t) 255))));
       small = omega (arith, u.small);
-    }
-
--- a number times a bit: the number or 0
-pub times_bit : (n word j : ℕ) → n * (word / 2 ^ j % 2) ≡ cond (bit word j) n 0
-times_bit n word j = ap (λ (b : ℕ). n * b) (bit_cond word j) ∙ by_case (bit word j)
-  where
-    by_case : (t : Bool) → n * cond t 1 0 ≡ cond t n 0
-    by_case true = mul-one n
-    by_case false = mul-zero n
+    })
 
 -- every bit of the highest word is set
 pub all_set : (j : ℕ) → j < 64 → bit 18446744073709551615 j ≡ true
@@ -129,5 +122,5 @@ module _ (held : Words) (lengths : List ℕ) where
       zeros : (n : ℕ) → Added (λ _. 0) n x x
       zeros zero = added_none (λ _. 0) x
       zeros (suc n) =
-          let w = added_more (λ _. 0) n 0 x x refl (omega arith) (zeros n) in
+          let w : Added (λ _. 0) (suc n) x (more x 0) = rw (sym (add-one n)) (added_more (λ _. 0) n 0 x x refl (omega arith) (zeros n)) in
           record { sum_is = sym (add-zero x.sum) ∙ w.sum_is; over_is = sym (or-false x.over) ∙ w.over_is; small = omega arith }

@@ -4,7 +4,7 @@ use Prim.Native.Nat.{ℕ}
 use mathlib.Core.Path.{◌≡◌, refl}
 use mathlib.Core.Logic.{◌⊎◌, inl, inr}
 use mathlib.Core.Bool.{true, false}
-use mathlib.Core.Option.{Option, none, some}
+use Rattle.std.specs.Prelude.{Option, Some, None}
 use native.Mathlib.Omega.{arith}
 use Rattle.link.specs.Peer.{identity_refused, protocol_served}
 use Rattle.link.specs.Profile.{known_profile}
@@ -19,7 +19,7 @@ use Rattle.receiver.specs.Advance.{Made, empty, bare_begin, try_new_rows, no_rec
 
 -- a making that is refused
 abbrev pub refused_with : Refusal → Made
-refused_with n = record { refused = some n; receiver = no_receiver }
+refused_with n = record { refused = Some n; receiver = no_receiver }
 
 module _ (t : Terms) (now' : ℕ) where
   pub gives_30 : identity_refused t.peer ≡ true → try_new_of t now' ≡ refused_with (30, 0)
@@ -43,13 +43,13 @@ module _ (t : Terms) (now' : ℕ) where
       then_codec (inr e) = rw (peer, protocol, e, known_2)
 
   -- where it is not refused: a new receiver of these terms
-  pub makes : (try_new_of t now').refused ≡ none → try_new_of t now' ≡ record { refused = none; receiver = empty t AwaitingBegin now' }
+  pub makes : (try_new_of t now').refused ≡ None → try_new_of t now' ≡ record { refused = None; receiver = empty t AwaitingBegin now' }
   unfolding try_new_of
   makes e = go (refusal (try_new_rows t)) e
     where
-      go : (v : Option Refusal) → (made_after v t now').refused ≡ none → made_after v t now' ≡ record { refused = none; receiver = empty t AwaitingBegin now' }
-      go (some n) f = absurd (let z : ◌≡◌ {A = ℕ} 0 1 = cc in omega arith)
-      go none f = refl
+      go : (v : Option Refusal) → (made_after v t now').refused ≡ None → made_after v t now' ≡ record { refused = None; receiver = empty t AwaitingBegin now' }
+      go (Some n) f = absurd (let z : ◌≡◌ {A = ℕ} 0 1 = cc in omega arith)
+      go None f = refl
 
 -- the record beside a refusal is none of 62's: calls on it answer as on any canceled receiver
 pub beside_possible : impossible no_receiver ≡ false

@@ -3,7 +3,7 @@
 -- differs from the slot's own, all of it where none does. Any segment is in one of these cases, so the laws leave no other figure. Assumes nothing.
 use mathlib.Core.Path.{◌≡◌, refl, sym, ap, ◌∙◌}
 use mathlib.Core.Bool.{Bool, true, false, cond, ◌&&◌}
-use mathlib.Core.Option.{none}
+use Rattle.std.specs.Prelude.{None}
 use mathlib.Core.List.{List}
 use Prim.Native.Nat.{ℕ, suc, ◌*◌, ◌≤◌, ◌<◌}
 use native.Mathlib.Omega.{arith}
@@ -44,7 +44,7 @@ very_segment r a store e k q =
       looked = (looked_same (own r a store) a.octets q ∙ ap length q) j;
     })
 
-module _ (interval : ℕ) (r : Receiver) (a : Arrival) (store out : List ℕ) (octet : sequence a < 256) (taken : refusal (receive_rows interval r a store out) ≡ none) where
+module _ (interval : ℕ) (r : Receiver) (a : Arrival) (store out : List ℕ) (octet : sequence a < 256) (taken : refusal (receive_rows interval r a store out) ≡ None) where
   -- the octets of a held slot lie in the store: 60 and 62 were passed
   slot_whole : is_held r (sequence a) ≡ true → length (own r a store) ≡ length_at r (sequence a)
   slot_whole e =

@@ -1,6 +1,5 @@
 -- What try_new, advance, cancel and release answer and leave.
-use Rattle.std.specs.Prelude.{ℕ, List, [], ◌∷◌, ◌++◌, Bool, true, false, not, ◌||◌, length, ltb}
-use Rattle.std.proofs.Math.Option.{Option, none, some}
+use Rattle.std.specs.Prelude.{ℕ, List, [], ◌∷◌, ◌++◌, Bool, true, false, not, ◌||◌, length, ltb, Option, Some, None}
 use Rattle.words.specs.Marks.{no_marks}
 use Rattle.link.specs.Peer.{identity_refused, protocol_served}
 use Rattle.link.specs.Profile.{known_profile}
@@ -9,15 +8,11 @@ use Rattle.tsar.specs.Rows.{Refusal, refusal}
 use Rattle.tsar.specs.Kinds.{services_or_default, prohibited}
 use Rattle.tsar.specs.Writing.{codec_rows}
 use Rattle.tsar.specs.declared.OptionalServices.{OptionalServices}
-use Rattle.tsar.specs.declared.MessageLength.TheVariants.{Unstated}
-use Rattle.tsar.specs.declared.Services.TheVariants as optional
 use Rattle.tsar.specs.declared.SegmentKind.TheVariants.{Begin}
 use Rattle.tsar.specs.declared.Segment.{Segment}
 use Rattle.response.specs.declared.Status.TheVariants as status
 use Rattle.receiver.specs.declared.ReceiverState.{ReceiverState}
 use Rattle.receiver.specs.declared.ReceiverState.TheVariants.{AwaitingBegin, Expired, Canceled}
-use Rattle.receiver.specs.declared.EndSequence.TheVariants as end
-use Rattle.receiver.specs.declared.Deadline.TheVariants as deadline
 use Rattle.receiver.specs.declared.Terms.{Terms}
 use Rattle.receiver.specs.declared.Receiver.{Receiver}
 use Rattle.receiver.specs.Record.{awaiting, receiving, complete, due, store_octets, empty_slots, empty_lengths, wiped, impossible, with, timed, read, closed}
@@ -26,7 +21,7 @@ use Rattle.receiver.specs.Answers.{Step, refuses, respond, answered}
 -- ---- try_new
 
 abbrev pub no_services : OptionalServices
-no_services = services_or_default optional.Absent
+no_services = services_or_default None
 
 -- a receiver with nothing held, in a state
 abbrev pub empty : Terms → ReceiverState → ℕ → Receiver
@@ -36,10 +31,10 @@ empty t s now' =
       progress = record {
         state = s;
         services = no_services;
-        end_sequence = end.Unknown;
-        message_length = Unstated;
+        end_sequence = None;
+        message_length = None;
         stored_octets = 0;
-        deadline_monotonic_ms = deadline.Off;
+        deadline_monotonic_ms = None;
         last_monotonic_ms = now';
       };
       held = no_marks;
@@ -49,7 +44,7 @@ empty t s now' =
 
 -- the Begin that the codec is asked about
 abbrev pub bare_begin : ℕ → Segment
-bare_begin transaction = record { transaction_id = transaction; sequence_number = 0; kind = Begin Unstated optional.Absent }
+bare_begin transaction = record { transaction_id = transaction; sequence_number = 0; kind = Begin None None }
 
 -- 30, 31, 64 (document 02, 2026-11), codec
 abbrev pub try_new_rows : Terms → List (Bool × Refusal)
@@ -69,8 +64,8 @@ pub record Made : Type 0 where
   pub receiver : Receiver
 
 abbrev pub made_after : Option Refusal → Terms → ℕ → Made
-made_after (some n) t now' = record { refused = some n; receiver = no_receiver }
-made_after none t now' = record { refused = none; receiver = empty t AwaitingBegin now' }
+made_after (Some n) t now' = record { refused = Some n; receiver = no_receiver }
+made_after None t now' = record { refused = None; receiver = empty t AwaitingBegin now' }
 
 unfoldable pub try_new_of : Terms → ℕ → Made
 try_new_of t now' = made_after (refusal (try_new_rows t)) t now'
@@ -84,19 +79,19 @@ clock_rows r store now' =
 
 -- at a due deadline: under Prohibited it expires, else it asks for what is missing
 abbrev pub fires : Bool → Bool → Receiver → List ℕ → ℕ → Step
-fires false p r store now' = record { answer = answered none none; receiver = read r now'; store = store; output = [] }
-fires true true r store now' = record { answer = answered none none; receiver = closed r Expired now'; store = wiped store; output = [] }
+fires false p r store now' = record { answer = answered None None; receiver = read r now'; store = store; output = [] }
+fires true true r store now' = record { answer = answered None None; receiver = closed r Expired now'; store = wiped store; output = [] }
 fires true false r store now' =
     record {
-      answer = answered (respond r status.InterSegmentTimeout true) none;
-      receiver = with r (timed r.progress deadline.Off now');
+      answer = answered (respond r status.InterSegmentTimeout true) None;
+      receiver = with r (timed r.progress None now');
       store = store;
       output = [];
     }
 
 abbrev pub advance_after : Option Refusal → Receiver → List ℕ → ℕ → Step
-advance_after (some n) r store now' = refuses n r store []
-advance_after none r store now' =
+advance_after (Some n) r store now' = refuses n r store []
+advance_after None r store now' =
     fires (due r.progress.deadline_monotonic_ms now') (prohibited r.progress.services.acknowledgment_window) r store now'
 
 unfoldable pub advance_of : Receiver → List ℕ → ℕ → Step
@@ -107,8 +102,8 @@ abbrev pub cancel_rows : Receiver → List ℕ → ℕ → List (Bool × Refusal
 cancel_rows r store now' = clock_rows r store now' ++ ((not (awaiting r.progress.state || receiving r.progress.state), (38, 0)) ∷ [])
 
 abbrev pub cancel_after : Option Refusal → Receiver → List ℕ → ℕ → Step
-cancel_after (some n) r store now' = refuses n r store []
-cancel_after none r store now' = record { answer = answered none none; receiver = closed r Canceled now'; store = wiped store; output = [] }
+cancel_after (Some n) r store now' = refuses n r store []
+cancel_after None r store now' = record { answer = answered None None; receiver = closed r Canceled now'; store = wiped store; output = [] }
 
 unfoldable pub cancel_of : Receiver → List ℕ → ℕ → Step
 cancel_of r store now' = cancel_after (refusal (cancel_rows r store now')) r store now'

@@ -1,11 +1,8 @@
 -- What a call answers and leaves, and the responses that it asks for: document 01, 'Port order' 3, with link/tsar/receiver.rs. Beside each response
 -- stand the figures of its map's missing entries: document 02, 2026-01.
-use Rattle.std.specs.Prelude.{ℕ, suc, ◌+◌, ◌%◌, min, List, Bool, true, false, cond, not, ◌&&◌, ◌||◌, eqb, leb}
-use Rattle.std.proofs.Math.Option.{Option, none, some}
+use Rattle.std.specs.Prelude.{ℕ, suc, ◌+◌, ◌%◌, min, List, Bool, true, false, cond, not, ◌&&◌, ◌||◌, eqb, leb, Option, Some, None}
 use Rattle.words.specs.Marks.{marked, highest_of}
 use Rattle.words.specs.declared.Words.{Words}
-use Rattle.words.specs.declared.Found.{Found}
-use Rattle.words.specs.declared.Found.TheVariants as found
 use Rattle.tsar.specs.Rows.{Refusal}
 use Rattle.tsar.specs.Kinds.{is_end, prohibited}
 use Rattle.tsar.specs.declared.AcknowledgmentWindow.{AcknowledgmentWindow}
@@ -13,10 +10,7 @@ use Rattle.tsar.specs.declared.AcknowledgmentWindow.TheVariants as window
 use Rattle.tsar.specs.declared.Segment.{Segment}
 use Rattle.response.specs.Responses.{status_number, map_of, figures_of}
 use Rattle.response.specs.declared.Status.{Status}
-use Rattle.response.specs.declared.SupportList.TheVariants as support
 use Rattle.response.specs.declared.Response.{Response}
-use Rattle.receiver.specs.declared.EndSequence.{EndSequence}
-use Rattle.receiver.specs.declared.EndSequence.TheVariants as end
 use Rattle.receiver.specs.declared.Receiver.{Receiver}
 use Rattle.receiver.specs.declared.Reported.{Reported}
 
@@ -40,17 +34,17 @@ refuses n r store out = record { answer = refused n; receiver = r; store = store
 -- ---- responses
 
 -- the highest held slot, 0 if there is none
-abbrev pub found_or0 : Found → ℕ
-found_or0 found.Nothing = 0
-found_or0 (found.At s) = s
+abbrev pub found_or0 : Option ℕ → ℕ
+found_or0 None = 0
+found_or0 (Some s) = s
 
 abbrev pub highest : Words → ℕ
 highest held = found_or0 (highest_of (marked held) 256)
 
 -- the last entry of a map: the end; or the highest held slot, in a timeout answer the one after it, at most 255
-abbrev pub last_entry : Bool → Words → EndSequence → ℕ
-last_entry next held (end.At e) = e
-last_entry next held end.Unknown = cond next (min (highest held + 1) 255) (highest held)
+abbrev pub last_entry : Bool → Words → Option ℕ → ℕ
+last_entry next held (Some e) = e
+last_entry next held None = cond next (min (highest held + 1) 255) (highest held)
 
 -- a response with the figures of its map
 abbrev pub reported : Response → Reported
@@ -59,12 +53,12 @@ reported x = record { response = x; missing = figures_of x.acknowledgments }
 -- a response under a window that is not Prohibited
 abbrev pub respond : Receiver → Status → Bool → Option Reported
 respond r s next =
-    cond (prohibited r.progress.services.acknowledgment_window) none
-    (some (reported (record {
+    cond (prohibited r.progress.services.acknowledgment_window) None
+    (Some (reported (record {
       transaction_id = r.terms.transaction_id;
       status = s;
       acknowledgments = map_of (marked r.held) (suc (last_entry next r.held r.progress.end_sequence));
-      optional_services_support = support.Absent;
+      optional_services_support = None;
     })))
 
 -- the window's period, 0 where it has none
@@ -95,7 +89,7 @@ required r x s =
     && (eqb (status_number s) 10 || is_end x.kind || periodic r.progress.services.acknowledgment_window x.sequence_number)
 
 abbrev pub required_response : Receiver → Segment → Status → Option Reported
-required_response r x s = cond (required r x s) (respond r s false) none
+required_response r x s = cond (required r x s) (respond r s false) None
 
 -- the support list: encryption and window, only with status 13 and version 5 or more
 abbrev pub listed : Bool → Reported → Reported
@@ -106,14 +100,14 @@ listed true x =
         transaction_id = x.response.transaction_id;
         status = x.response.status;
         acknowledgments = x.response.acknowledgments;
-        optional_services_support = support.Listed (record { compression = false; encryption = true; acknowledgment_window = true; crc = false });
+        optional_services_support = Some (record { compression = false; encryption = true; acknowledgment_window = true; crc = false });
       };
       missing = x.missing;
     }
 
 abbrev pub listed_in : Bool → Option Reported → Option Reported
-listed_in b none = none
-listed_in b (some x) = some (listed b x)
+listed_in b None = None
+listed_in b (Some x) = Some (listed b x)
 
 -- the response to a failure
 abbrev pub fail_response : Receiver → Status → Option Reported

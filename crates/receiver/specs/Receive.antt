@@ -1,6 +1,5 @@
 -- What receive answers and leaves: its refusals in document 01's order, then the rules of the slots in the source's order.
-use Rattle.std.specs.Prelude.{ℕ, suc, ◌+◌, ◌-◌, ◌*◌, ◌^◌, min, List, [], ◌∷◌, ◌++◌, Bool, true, false, cond, not, ◌&&◌, ◌||◌, length, set, eqb, ltb}
-use Rattle.std.proofs.Math.Option.{Option, none, some}
+use Rattle.std.specs.Prelude.{ℕ, suc, ◌+◌, ◌-◌, ◌*◌, ◌^◌, min, List, [], ◌∷◌, ◌++◌, Bool, true, false, cond, not, ◌&&◌, ◌||◌, length, set, eqb, ltb, Option, Some, None}
 use Rattle.std.proofs.lemmas.List.Edits.{sets}
 use Rattle.octets.specs.Octets.{same_octets}
 use Rattle.words.specs.Marks.{marked, words_of}
@@ -12,8 +11,6 @@ pub use Rattle.tsar.specs.Kinds.{same_lengths, same_optional, same_services, sam
 use Rattle.tsar.specs.Kinds.{is_begin, is_continue, is_end, services_or_default, compresses, selects_crc, has_crc, prohibited, states_other}
 use Rattle.tsar.specs.Writing.{codec_rows, length_in, crc_in}
 use Rattle.tsar.specs.declared.OptionalServices.{OptionalServices}
-use Rattle.tsar.specs.declared.MessageLength.{MessageLength}
-use Rattle.tsar.specs.declared.MessageLength.TheVariants.{Unstated, Stated}
 use Rattle.tsar.specs.declared.SegmentKind.{SegmentKind}
 use Rattle.tsar.specs.declared.SegmentKind.TheVariants.{Begin, Continue, End}
 use Rattle.tsar.specs.declared.Segment.{Segment}
@@ -21,10 +18,6 @@ use Rattle.response.specs.declared.Status.{Status}
 use Rattle.response.specs.declared.Status.TheVariants as status
 use Rattle.receiver.specs.declared.ReceiverState.{ReceiverState}
 use Rattle.receiver.specs.declared.ReceiverState.TheVariants.{Receiving, Complete, Failed, Expired}
-use Rattle.receiver.specs.declared.EndSequence.{EndSequence}
-use Rattle.receiver.specs.declared.EndSequence.TheVariants as end
-use Rattle.receiver.specs.declared.Deadline.{Deadline}
-use Rattle.receiver.specs.declared.Deadline.TheVariants as deadline
 use Rattle.receiver.specs.declared.Receiver.{Receiver}
 use Rattle.receiver.specs.Record.{taking, awaiting, receiving, complete, states_below, states_above, clash, past_end, other_end, late, slot_octets, store_octets, is_held, kind_at, length_at, part, wiped, clear_past, full_with, joined, impossible, with, timed, read, closed}
 use Rattle.receiver.specs.Answers.{Step, refuses, last_entry, required_response, fail_response, refused, answered}
@@ -86,15 +79,15 @@ services_of old (Continue n) = old
 services_of old (End n c) = old
 
 -- the stated length: the segment's, or the one there is
-abbrev pub stated_of : MessageLength → MessageLength → MessageLength
-stated_of old Unstated = old
-stated_of old (Stated n) = Stated n
+abbrev pub stated_of : Option ℕ → Option ℕ → Option ℕ
+stated_of old None = old
+stated_of old (Some n) = Some n
 
 -- the end: an End's sequence, or the one there is
-abbrev pub end_of : EndSequence → SegmentKind → ℕ → EndSequence
+abbrev pub end_of : Option ℕ → SegmentKind → ℕ → Option ℕ
 end_of old (Begin n s) q = old
 end_of old (Continue n) q = old
-end_of old (End n c) q = end.At q
+end_of old (End n c) q = Some q
 
 -- the status of services that are not served: both 13, compression 4, CRC 3
 abbrev pub unserved : OptionalServices → Status
@@ -131,7 +124,7 @@ slot_rules r a store =
     ∷ []
 
 -- with the segment held
-abbrev pub kept : Receiver → Arrival → ReceiverState → Deadline → Receiver
+abbrev pub kept : Receiver → Arrival → ReceiverState → Option ℕ → Receiver
 kept r a s d =
     record {
       terms = r.terms;
@@ -149,7 +142,7 @@ kept r a s d =
       slots = set r.slots (sequence a) (record { kind = kind a });
     }
 
-abbrev pub noting : Receiver → OptionalServices → MessageLength → Receiver
+abbrev pub noting : Receiver → OptionalServices → Option ℕ → Receiver
 noting r s n =
     with r (record {
       state = r.progress.state;
@@ -166,34 +159,34 @@ abbrev pub at_stage : Receiver → Arrival → Stage → Receiver
 at_stage r a before = r
 at_stage r a begun = noting r (services_of r.progress.services (kind a)) r.progress.message_length
 at_stage r a noted = noting r (services_of r.progress.services (kind a)) (stated_of r.progress.message_length (length_in (kind a)))
-at_stage r a keeping = kept r a Receiving deadline.Off
+at_stage r a keeping = kept r a Receiving None
 
 abbrev pub settle : ℕ → Outcome → Receiver → Arrival → List ℕ → List ℕ → Step
 settle interval (fails st s) r a store out =
-    record { answer = answered (fail_response (at_stage r a st) s) none; receiver = closed (at_stage r a st) (Failed s) a.reading; store = wiped store; output = out }
+    record { answer = answered (fail_response (at_stage r a st) s) None; receiver = closed (at_stage r a st) (Failed s) a.reading; store = wiped store; output = out }
 settle interval repeats r a store out =
-    let d = cond (receiving r.progress.state) (deadline.At (a.reading + interval)) r.progress.deadline_monotonic_ms in
+    let d = cond (receiving r.progress.state) (Some (a.reading + interval)) r.progress.deadline_monotonic_ms in
     record {
-      answer = answered (required_response r a.segment (cond (complete r.progress.state) status.Received status.Continuing)) none;
+      answer = answered (required_response r a.segment (cond (complete r.progress.state) status.Received status.Continuing)) None;
       receiver = with r (timed r.progress d a.reading);
       store = store;
       output = out;
     }
 settle interval closes r a store out = record { answer = refused (38, 0); receiver = read r a.reading; store = store; output = out }
 settle interval keeps r a store out =
-    let r' = kept r a Receiving (deadline.At (a.reading + interval)) in
+    let r' = kept r a Receiving (Some (a.reading + interval)) in
     record {
-      answer = answered (required_response r' a.segment status.Continuing) none;
+      answer = answered (required_response r' a.segment status.Continuing) None;
       receiver = r';
       store = sets store (slot_octets * sequence a) a.octets;
       output = out;
     }
 settle interval finishes r a store out =
-    let r' = kept r a Complete deadline.Off in
+    let r' = kept r a Complete None in
     let store' = sets store (slot_octets * sequence a) a.octets in
     let message = joined r'.lengths store' (suc (last_entry false r'.held r'.progress.end_sequence)) in
     record {
-      answer = answered (required_response r' a.segment status.Received) (some (length message));
+      answer = answered (required_response r' a.segment status.Received) (Some (length message));
       receiver = r';
       store = store';
       output = sets out 0 message;
@@ -206,8 +199,8 @@ late_or interval true false r a store out = refuses (37, 0) r store out
 late_or interval false p r a store out = settle interval (first_of (slot_rules r a store) keeps) r a store out
 
 abbrev pub receive_after : ℕ → Option Refusal → Receiver → Arrival → List ℕ → List ℕ → Step
-receive_after interval (some n) r a store out = refuses n r store out
-receive_after interval none r a store out =
+receive_after interval (Some n) r a store out = refuses n r store out
+receive_after interval None r a store out =
     late_or interval (late r.progress.deadline_monotonic_ms a.reading) (prohibited r.progress.services.acknowledgment_window) r a store out
 
 unfoldable pub receive_of : ℕ → Receiver → Arrival → List ℕ → List ℕ → Step

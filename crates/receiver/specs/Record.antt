@@ -1,22 +1,15 @@
 -- A receiver's record: states, slots, the lent store, the impossible states (62), and the records that calls leave.
-use Rattle.std.specs.Prelude.{ℕ, zero, suc, ◌+◌, ◌*◌, List, [], ◌∷◌, ◌++◌, Bool, true, false, cond, not, ◌&&◌, ◌||◌, get_or, take, drop, replicate, eqb, leb, ltb}
+use Rattle.std.specs.Prelude.{ℕ, zero, suc, ◌+◌, ◌*◌, List, [], ◌∷◌, ◌++◌, Bool, true, false, cond, not, ◌&&◌, ◌||◌, get_or, take, drop, replicate, eqb, leb, ltb, Option, Some, None}
 use Rattle.octets.specs.Octets.{wiped_to}
 use Rattle.words.specs.Marks.{marked, no_marks, all_below}
 use Rattle.words.specs.declared.Words.{Words}
 use Rattle.link.specs.Profile.{known_profile, receiver_interval}
 use Rattle.tsar.specs.Rows.{any_of}
 pub use Rattle.tsar.specs.Kinds.{is_begin, is_continue, is_end, services_or_default, compresses, selects_crc, has_crc, prohibited, states_other}
-use Rattle.tsar.specs.declared.MessageLength.{MessageLength}
-use Rattle.tsar.specs.declared.MessageLength.TheVariants.{Unstated, Stated}
-use Rattle.tsar.specs.declared.Services.TheVariants as optional
 use Rattle.tsar.specs.declared.SegmentKind.{SegmentKind}
 use Rattle.tsar.specs.declared.SegmentKind.TheVariants.{Begin}
 use Rattle.receiver.specs.declared.ReceiverState.{ReceiverState}
 use Rattle.receiver.specs.declared.ReceiverState.TheVariants.{AwaitingBegin, Receiving, Complete, Failed, Expired, Canceled}
-use Rattle.receiver.specs.declared.EndSequence.{EndSequence}
-use Rattle.receiver.specs.declared.EndSequence.TheVariants as end
-use Rattle.receiver.specs.declared.Deadline.{Deadline}
-use Rattle.receiver.specs.declared.Deadline.TheVariants as deadline
 use Rattle.receiver.specs.declared.Progress.{Progress}
 use Rattle.receiver.specs.declared.Slot.{Slot}
 use Rattle.receiver.specs.declared.Receiver.{Receiver}
@@ -60,39 +53,39 @@ abbrev pub receiving_or_complete : ReceiverState → Bool
 receiving_or_complete s = receiving s || complete s
 
 -- a stated length that is below n, above n
-abbrev pub states_below : MessageLength → ℕ → Bool
-states_below Unstated n = false
-states_below (Stated m) n = ltb m n
+abbrev pub states_below : Option ℕ → ℕ → Bool
+states_below None n = false
+states_below (Some m) n = ltb m n
 
-abbrev pub states_above : MessageLength → ℕ → Bool
-states_above Unstated n = false
-states_above (Stated m) n = ltb n m
+abbrev pub states_above : Option ℕ → ℕ → Bool
+states_above None n = false
+states_above (Some m) n = ltb n m
 
 -- two stated lengths that differ, where both are stated
-abbrev pub clash : MessageLength → MessageLength → Bool
-clash a Unstated = false
-clash a (Stated n) = states_other a n
+abbrev pub clash : Option ℕ → Option ℕ → Bool
+clash a None = false
+clash a (Some n) = states_other a n
 
-abbrev pub past_end : EndSequence → ℕ → Bool
-past_end end.Unknown s = false
-past_end (end.At e) s = ltb e s
+abbrev pub past_end : Option ℕ → ℕ → Bool
+past_end None s = false
+past_end (Some e) s = ltb e s
 
-abbrev pub other_end : EndSequence → ℕ → Bool
-other_end end.Unknown s = false
-other_end (end.At e) s = not (eqb e s)
+abbrev pub other_end : Option ℕ → ℕ → Bool
+other_end None s = false
+other_end (Some e) s = not (eqb e s)
 
 -- late (document 01): the reading is past the deadline; due: at or past it
-abbrev pub late : Deadline → ℕ → Bool
-late deadline.Off now' = false
-late (deadline.At d) now' = ltb d now'
+abbrev pub late : Option ℕ → ℕ → Bool
+late None now' = false
+late (Some d) now' = ltb d now'
 
-abbrev pub due : Deadline → ℕ → Bool
-due deadline.Off now' = false
-due (deadline.At d) now' = leb d now'
+abbrev pub due : Option ℕ → ℕ → Bool
+due None now' = false
+due (Some d) now' = leb d now'
 
-abbrev pub running : Deadline → Bool
-running deadline.Off = false
-running (deadline.At d) = true
+abbrev pub running : Option ℕ → Bool
+running None = false
+running (Some d) = true
 
 -- the receiver's own interval, in milliseconds: its profile's
 abbrev pub interval_of : Receiver → ℕ
@@ -108,7 +101,7 @@ store_octets = 65280
 
 -- the empty slot: the zero value of its type
 abbrev pub no_slot : Slot
-no_slot = record { kind = Begin Unstated optional.Absent }
+no_slot = record { kind = Begin None None }
 
 abbrev pub is_held : Receiver → ℕ → Bool
 is_held r s = marked r.held s
@@ -145,14 +138,14 @@ abbrev pub clear_past : Words → ℕ → Bool
 clear_past held s = all_below 256 (λ t. not (ltb s t && marked held t))
 
 -- the slots up to the end are held, counting s as held
-abbrev pub full_with : Words → ℕ → EndSequence → Bool
-full_with held s end.Unknown = false
-full_with held s (end.At e) = all_below (suc e) (λ t. eqb t s || marked held t)
+abbrev pub full_with : Words → ℕ → Option ℕ → Bool
+full_with held s None = false
+full_with held s (Some e) = all_below (suc e) (λ t. eqb t s || marked held t)
 
 -- no end, or a gap before it
-abbrev pub gap : Words → EndSequence → Bool
-gap held end.Unknown = true
-gap held (end.At e) = not (all_below e (marked held))
+abbrev pub gap : Words → Option ℕ → Bool
+gap held None = true
+gap held (Some e) = not (all_below e (marked held))
 
 -- the data of slots 0 to n - 1 in order
 unfoldable pub joined : List ℕ → List ℕ → ℕ → List ℕ
@@ -192,7 +185,7 @@ abbrev pub with : Receiver → Progress → Receiver
 with r p = record { terms = r.terms; progress = p; held = r.held; lengths = r.lengths; slots = r.slots }
 
 -- the last reading, and the deadline
-abbrev pub timed : Progress → Deadline → ℕ → Progress
+abbrev pub timed : Progress → Option ℕ → ℕ → Progress
 timed p d now' =
     record {
       state = p.state;
@@ -219,7 +212,7 @@ closed r s now' =
         end_sequence = r.progress.end_sequence;
         message_length = r.progress.message_length;
         stored_octets = 0;
-        deadline_monotonic_ms = deadline.Off;
+        deadline_monotonic_ms = None;
         last_monotonic_ms = now';
       };
       held = no_marks;

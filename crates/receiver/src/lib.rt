@@ -2,10 +2,12 @@
 #![tactic(auto)]
 
 ghost use Rattle.std.specs.Prelude.{◌≡◌};
+ghost use Rattle.receiver.specs.Record.{taking, awaiting, receiving, complete};
+ghost use Rattle.receiver.specs.declared.ReceiveError.TheVariants.{Codec};
 
 use link::{HigherLayerProtocol, MobileIdentity};
 use response::{Missing, Response, Status};
-use tsar::{Error, MessageLength, OptionalServices, SegmentKind};
+use tsar::{Error, OptionalServices, SegmentKind};
 use words::Words;
 
 pub mod checks;
@@ -14,12 +16,11 @@ pub mod kinds;
 pub mod machine;
 pub mod replies;
 pub mod rules;
-pub mod same;
 pub mod states;
 pub mod turns;
 
 // The highest reading of the clock: 2 to the 64 less 1.
-const MAX_READING_MS: u64 = 18_446_744_073_709_551_615;
+const MAX_READING_MS: u64 = u64::MAX;
 
 const LAST_SEQUENCE: u8 = 255;
 
@@ -28,7 +29,7 @@ const SLOT_OCTETS: usize = 255;
 
 const STORE_OCTETS: usize = 65_280;
 
-#[derive(Clone, Copy)]
+#[derive(Clone, Copy, Debug, PartialEq, Eq)]
 pub enum ReceiverState {
     AwaitingBegin,
     Receiving,
@@ -38,22 +39,8 @@ pub enum ReceiverState {
     Canceled,
 }
 
-// The sequence of the End, once one is held: the source's Option<u8>.
-#[derive(Clone, Copy)]
-pub enum EndSequence {
-    Unknown,
-    At(u8),
-}
-
-// The source's Option<u64>.
-#[derive(Clone, Copy)]
-pub enum Deadline {
-    Off,
-    At(u64),
-}
-
 // What try_new fixes. The profile says how long the receiver waits; a record can have any number there, and one of neither profile is impossible.
-#[derive(Clone, Copy)]
+#[derive(Clone, Copy, Debug, PartialEq, Eq)]
 pub struct Terms {
     pub peer: MobileIdentity,
     pub protocol: HigherLayerProtocol,
@@ -63,19 +50,19 @@ pub struct Terms {
     pub maximum_message_octets: usize,
 }
 
-#[derive(Clone, Copy)]
+#[derive(Clone, Copy, Debug, PartialEq, Eq)]
 pub struct Progress {
     pub state: ReceiverState,
     pub services: OptionalServices,
-    pub end_sequence: EndSequence,
-    pub message_length: MessageLength,
+    pub end_sequence: Option<u8>,
+    pub message_length: Option<u16>,
     pub stored_octets: usize,
-    pub deadline_monotonic_ms: Deadline,
+    pub deadline_monotonic_ms: Option<u64>,
     pub last_monotonic_ms: u64,
 }
 
 // The kind of a held segment, with its parameters.
-#[derive(Clone, Copy)]
+#[derive(Clone, Copy, Debug, PartialEq, Eq)]
 pub struct Slot {
     pub kind: SegmentKind,
 }
@@ -91,7 +78,7 @@ pub struct Receiver {
 }
 
 // The last four are document 01's 60, 61 and 62 and 2026-11's 64, which the source has not.
-#[derive(Clone, Copy)]
+#[derive(Clone, Copy, Debug, PartialEq, Eq)]
 pub enum ReceiveError {
     Identity,
     Service,
@@ -116,90 +103,68 @@ pub struct Reported {
     pub missing: Missing,
 }
 
-// A response that a call asks for: the source's Option<Response>, with the figures.
-#[derive(Clone, Copy)]
-pub enum Reply {
-    Nothing,
-    Response(Reported),
-}
-
-// A message that a call hands over: the first octets of the output, as many as this counts.
-#[derive(Clone, Copy)]
-pub enum Message {
-    Nothing,
-    Octets(usize),
-}
-
 #[derive(Clone, Copy)]
 pub struct Reception {
-    pub response: Reply,
-    pub message: Message,
-}
-
-#[derive(Clone, Copy)]
-pub enum TryNewAnswer {
-    Made,
-    Refused(ReceiveError),
-}
-
-#[derive(Clone, Copy)]
-pub enum ReceiveAnswer {
-    Received(Reception),
-    Refused(ReceiveError),
-}
-
-#[derive(Clone, Copy)]
-pub enum AdvanceAnswer {
-    Advanced(Reply),
-    Refused(ReceiveError),
-}
-
-#[derive(Clone, Copy)]
-pub enum CancelAnswer {
-    Canceled,
-    Refused(ReceiveError),
+    pub response: Option<Reported>,
+    pub message: Option<usize>,
 }
 
 // What a call gives: the answer, and the receiver as the call leaves it.
 #[derive(Clone, Copy)]
-pub struct TryNew {
-    pub answer: TryNewAnswer,
+pub struct Call<A> {
+    pub answer: Result<A, ReceiveError>,
     pub receiver: Receiver,
 }
 
-#[derive(Clone, Copy)]
-pub struct Receive {
-    pub answer: ReceiveAnswer,
-    pub receiver: Receiver,
+impl ReceiverState {
+    // The states that take segments.
+    pub fn is_taking(self) -> bool
+        ensures { result ≡ taking self }
+    {
+        matches!(
+            self,
+            ReceiverState::AwaitingBegin | ReceiverState::Receiving | ReceiverState::Complete
+        )
+    }
+
+    pub fn is_awaiting(self) -> bool
+        ensures { result ≡ awaiting self }
+    {
+        self == ReceiverState::AwaitingBegin
+    }
+
+    pub fn is_receiving(self) -> bool
+        ensures { result ≡ receiving self }
+    {
+        self == ReceiverState::Receiving
+    }
+
+    pub fn is_complete(self) -> bool
+        ensures { result ≡ complete self }
+    {
+        self == ReceiverState::Complete
+    }
 }
 
-#[derive(Clone, Copy)]
-pub struct Advance {
-    pub answer: AdvanceAnswer,
-    pub receiver: Receiver,
-}
+impl From<Error> for ReceiveError {
+    ghost from_gives = { λ e r. r ≡ Codec e };
 
-#[derive(Clone, Copy)]
-pub struct Cancel {
-    pub answer: CancelAnswer,
-    pub receiver: Receiver,
+    fn from(error: Error) -> ReceiveError {
+        ReceiveError::Codec(error)
+    }
 }
 
 impl Receiver {
     pub fn state(self) -> ReceiverState
         ensures { result ≡ self.progress.state }
     {
-        let progress = self.progress;
-        let state = progress.state;
-        state
+        self.progress.state
     }
 
-    pub fn deadline_monotonic_ms(self) -> Deadline
+    pub fn deadline_monotonic_ms(self) -> Option<u64>
         ensures { result ≡ self.progress.deadline_monotonic_ms }
     {
-        let progress = self.progress;
-        let deadline = progress.deadline_monotonic_ms;
-        deadline
+        self.progress.deadline_monotonic_ms
     }
 
     pub fn stored_octets(self) -> usize

@@ -1,7 +1,6 @@
 -- The number that a call on a receiver gives, and the layouts REPLY (46 octets) and RECEPTION (55) of what it answers. What is absent is 0 in
 -- full width.
-use Rattle.std.proofs.Math.Option.{Option, none, some}
-use Rattle.std.specs.Prelude.{List, [], ◌∷◌, ◌++◌, ℕ, replicate}
+use Rattle.std.specs.Prelude.{List, [], ◌∷◌, ◌++◌, ℕ, replicate, Option, Some, None}
 use Rattle.receiver.specs.declared.Reported.{Reported}
 use Rattle.receiver.specs.Answers.{Answer, refused, answered}
 use Rattle.codec_c.specs.Codes.{code_of}
@@ -15,13 +14,13 @@ answer_code (answered r m) = 0
 
 -- REPLY, a response: flag, RESPONSE, how many entries of its map are missing, the first of them
 unfoldable pub reply_image : Option Reported → List ℕ
-reply_image none = replicate 46 0
-reply_image (some x) = 1 ∷ response_image x.response ++ (spell 2 x.missing.count ++ spell 2 x.missing.first)
+reply_image None = replicate 46 0
+reply_image (Some x) = 1 ∷ response_image x.response ++ (spell 2 x.missing.count ++ spell 2 x.missing.first)
 
 -- a message that is handed over: flag, number of octets
 unfoldable pub message_image : Option ℕ → List ℕ
-message_image none = replicate 9 0
-message_image (some n) = 1 ∷ spell 8 n
+message_image None = replicate 9 0
+message_image (Some n) = 1 ∷ spell 8 n
 
 -- RECEPTION: both
 unfoldable pub reception_image : Option Reported → Option ℕ → List ℕ

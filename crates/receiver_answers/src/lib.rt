@@ -5,15 +5,13 @@ ghost use Rattle.std.specs.Prelude.{◌≡◌, ◌+◌, ◌≤◌, length};
 ghost use Rattle.std.proofs.lemmas.List.Edits.{sets};
 ghost use Rattle.codec_c.specs.Codes.{code_of};
 ghost use Rattle.receiver.specs.Numbers.{receive_number};
-ghost use Rattle.receiver.specs.Says.{reply_says, message_says, receive_says, advance_says, cancel_says};
+ghost use Rattle.receiver.specs.Says.{receive_says, advance_says, cancel_says};
 ghost use Rattle.receiver_answers.specs.Answers.{answer_code, reply_image, message_image, reception_image, reply_octets, reception_octets};
 
 use codec_c::codes::{DONE, error_code as codec_code};
-use image::numbers::{octets64, put16};
+use image::numbers::{self, Number};
 use image_link::{RESPONSE_OCTETS, put_response};
-use receiver::{
-    AdvanceAnswer, CancelAnswer, Message, ReceiveAnswer, ReceiveError, Reception, Reply,
-};
+use receiver::{ReceiveError, Reception, Reported};
 
 // The figures stand behind RESPONSE and its flag, in two octets each.
 const FIGURES: usize = 1 + RESPONSE_OCTETS;
@@ -49,45 +47,41 @@ pub fn error_code(e: ReceiveError) -> u32
 }
 
 // The number of a cancel, and of a release.
-pub fn cancel_code(a: CancelAnswer) -> u32
+pub fn cancel_code(a: Result<(), ReceiveError>) -> u32
     ensures { result ≡ answer_code (cancel_says a) }
 {
     match a {
-        CancelAnswer::Canceled => DONE,
-        CancelAnswer::Refused(e) => error_code(e),
+        Ok(()) => DONE,
+        Err(e) => error_code(e),
     }
 }
 
 // REPLY at a place of octets: flag, RESPONSE, the figures of its map.
-pub fn put_reply(dst: &mut [u8], at: usize, reply: Reply)
+pub fn put_reply(dst: &mut [u8], at: usize, reply: Option<Reported>)
     requires { at + 46 ≤ length dst.old }
-    ensures { (dst.new ≡ sets dst.old at (reply_image (reply_says reply))) × (length (reply_image (reply_says reply)) ≡ 46) }
+    ensures { (dst.new ≡ sets dst.old at (reply_image reply)) × (length (reply_image reply) ≡ 46) }
 {
     match reply {
-        Reply::Nothing => {
-            let none = [0u8; REPLY_OCTETS];
-            octets::put(dst, at, &none);
+        None => {
+            octets::put(dst, at, &[0; REPLY_OCTETS]);
         }
-        Reply::Response(x) => {
-            let some = [1u8];
-            octets::put(dst, at, &some);
-            let response = x.response;
-            put_response(dst, at + 1, response);
-            let missing = x.missing;
-            put16(dst, at + FIGURES, missing.count);
-            put16(dst, at + FIGURES + FIGURE_OCTETS, missing.first);
+        Some(x) => {
+            octets::put(dst, at, &[1]);
+            put_response(dst, at + 1, x.response);
+            numbers::put(dst, at + FIGURES, x.missing.count);
+            numbers::put(dst, at + FIGURES + FIGURE_OCTETS, x.missing.first);
         }
     }
 }
 
 // A message that is handed over: flag, number of octets.
-fn message_octets(m: Message) -> [u8; MESSAGE_OCTETS]
-    ensures { result ≡ message_image (message_says m) }
+fn message_octets(m: Option<usize>) -> [u8; MESSAGE_OCTETS]
+    ensures { result ≡ message_image m }
 {
     match m {
-        Message::Nothing => [0, 0, 0, 0, 0, 0, 0, 0, 0],
-        Message::Octets(count) => {
-            let n = octets64(count as u64);
+        None => [0; MESSAGE_OCTETS],
+        Some(count) => {
+            let n: [u8; 8] = (count as u64).octets();
             [1, n[0], n[1], n[2], n[3], n[4], n[5], n[6], n[7]]
         }
     }
@@ -96,23 +90,21 @@ fn message_octets(m: Message) -> [u8; MESSAGE_OCTETS]
 // RECEPTION at a place of octets.
 pub fn put_received(dst: &mut [u8], at: usize, x: Reception)
     requires { at + 55 ≤ length dst.old }
-    ensures { dst.new ≡ sets dst.old at (reception_image (reply_says x.response) (message_says x.message)) }
+    ensures { dst.new ≡ sets dst.old at (reception_image x.response x.message) }
 {
-    let reply = x.response;
-    let message = x.message;
-    put_reply(dst, at, reply);
-    let m = message_octets(message);
-    octets::put(dst, at + REPLY_OCTETS, &m);
+    put_reply(dst, at, x.response);
+    octets::put(dst, at + REPLY_OCTETS, &message_octets(x.message));
 }
 
+// Two exported answers of other widths (the C interface): a function over both would take what is written and its width, which is no plainer.
 // What a receive answers, at the front of octets, and its number.
-pub fn put_reception(dst: &mut [u8], a: ReceiveAnswer) -> u32
+pub fn put_reception(dst: &mut [u8], a: Result<Reception, ReceiveError>) -> u32
     requires { 55 ≤ length dst.old }
     ensures { (result ≡ answer_code (receive_says a)) × (dst.new ≡ sets dst.old 0 (reception_octets (receive_says a))) }
 {
     match a {
-        ReceiveAnswer::Refused(e) => error_code(e),
-        ReceiveAnswer::Received(x) => {
+        Err(e) => error_code(e),
+        Ok(x) => {
             put_received(dst, 0, x);
             DONE
         }
@@ -120,13 +112,13 @@ pub fn put_reception(dst: &mut [u8], a: ReceiveAnswer) -> u32
 }
 
 // What an advance answers, at the front of octets, and its number.
-pub fn put_advance(dst: &mut [u8], a: AdvanceAnswer) -> u32
+pub fn put_advance(dst: &mut [u8], a: Result<Option<Reported>, ReceiveError>) -> u32
     requires { 46 ≤ length dst.old }
     ensures { (result ≡ answer_code (advance_says a)) × (dst.new ≡ sets dst.old 0 (reply_octets (advance_says a))) }
 {
     match a {
-        AdvanceAnswer::Refused(e) => error_code(e),
-        AdvanceAnswer::Advanced(reply) => {
+        Err(e) => error_code(e),
+        Ok(reply) => {
             put_reply(dst, 0, reply);
             DONE
         }

@@ -3,7 +3,7 @@
 use mathlib.Core.Path.{◌≡◌, refl, sym, ap, ◌∙◌}
 use mathlib.Core.Bool.{true, false}
 use mathlib.Core.List.{List, []}
-use mathlib.Core.Option.{none, some}
+use Rattle.std.specs.Prelude.{Some, None}
 use Prim.Native.Nat.{ℕ, ◌≤◌}
 use lib.ListN.{length}
 use borrow.Author.Tests.{le-ltb}
@@ -36,12 +36,12 @@ module _ (image : List ℕ) (kind width value protocol octet transaction version
   given : (m : Made) → try_new_of asked reading ≡ m → made ≡ new_gives image m
   given m e = sym (new_passed image kind width value protocol octet transaction version profile maximum reading (protocol_of protocol octet) passed refl) ∙ ap (new_gives image) e
     where
-      passed : refusal (new_tests image protocol) ≡ none
+      passed : refusal (new_tests image protocol) ≡ None
       passed = refusal_pass (new_tests image protocol) (le-ltb (length image) 3931 room, (le-ltb 2 protocol named, tt))
 
   pub export_64 : identity_refused asked.peer ≡ false → protocol_served asked.protocol ≡ true → (profile ≡ 1 → ⊥) → (profile ≡ 2 → ⊥) → made ≡ call 16384 image [] [] []
   export_64 a b f g = given _ (gives_64 asked reading a b f g)
 
   -- where try_new refuses nothing: 0, and the receiver that the record spells is a new one of these terms, the profile among them
-  pub export_made : (try_new_of asked reading).refused ≡ none → (made.code ≡ 0) × (made.receiver ≡ some (empty asked AwaitingBegin reading))
+  pub export_made : (try_new_of asked reading).refused ≡ None → (made.code ≡ 0) × (made.receiver ≡ Some (empty asked AwaitingBegin reading))
   export_made e = let q = given _ (makes asked reading e) in (ap (λ (c : Call). c.code) q, ap (λ (c : Call). c.receiver) q)

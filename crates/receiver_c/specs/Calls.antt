@@ -1,11 +1,13 @@
 -- What catkhize_receiver_new, _receive, _advance, _cancel and _release give and leave in each lent buffer: the exports' own tests, then the receiver's
 -- definitions. Each call's arguments stand in the order of the export.
-use Rattle.std.specs.Prelude.{Bool, not, cond, List, [], ◌∷◌, ℕ, ltb, length}
-use Rattle.std.proofs.Math.Option.{Option, none, some}
+use denote.Ref.{MutBor}
+use Rattle.std.specs.Prelude.{◌≡◌, Bool, not, cond, List, [], ◌∷◌, ℕ, ltb, length, Option, Some, None, Result, Ok, Err}
 use Rattle.std.proofs.lemmas.List.Edits.{sets}
 use Rattle.tsar.specs.Rows.{Refusal, refusal}
 use Rattle.receiver.specs.declared.Receiver.{Receiver}
+use Rattle.receiver.specs.declared.Call.{Call as Calls}
 use Rattle.receiver.specs.Answers.{Answer, Step}
+use Rattle.receiver.specs.Says.{canceled}
 use Rattle.receiver.specs.Record.{interval_of}
 use Rattle.receiver.specs.Receive.{receive_of}
 use Rattle.receiver.specs.Advance.{Made, try_new_of, advance_of, cancel_of, release_of}
@@ -28,7 +30,7 @@ pub record Call : Type 0 where
 
 -- the receiver that octets spell, if they spell one
 unfoldable pub spelled_by : List ℕ → Option Receiver
-spelled_by image = cond (image_ok image) (some (record_of image)) none
+spelled_by image = cond (image_ok image) (Some (record_of image)) None
 
 -- a call as code makes it; what it is not lent is []
 abbrev pub call : ℕ → List ℕ → List ℕ → List ℕ → List ℕ → Call
@@ -48,11 +50,21 @@ step_call octets image answer s =
     record {
       code = answer_code s.answer;
       image = sets image 0 (image_of s.receiver);
-      receiver = some s.receiver;
+      receiver = Some s.receiver;
       store = s.store;
       output = s.output;
       answer = sets answer 0 (octets s.answer);
     }
+
+-- ---- what code reads, and what it does with what a step gives
+
+-- a record is 3931 octets, and an answer as many as are asked for
+abbrev pub front_tests : List ℕ → List ℕ → ℕ → List (Bool × Refusal)
+front_tests image answer octets = (ltb (length image) 3931, short) ∷ (ltb (length answer) octets, short) ∷ (not (image_ok image), misspelled) ∷ []
+
+-- the receiver that a record spells, or the number of the first test that holds
+abbrev pub read_of : List ℕ → List ℕ → ℕ → Result Receiver ℕ
+read_of image answer octets = unless_refused (refusal (front_tests image answer octets)) Err (Ok (record_of image))
 
 -- ---- catkhize_receiver_receive
 
@@ -106,6 +118,12 @@ closing_call step image store reading =
     unless_refused (refusal (closing_tests image)) (λ n. call n image store [] [])
     (step_call no_octets image [] (step (record_of image) store reading))
 
+-- a call that hands the record's receiver to a step, of whose results P holds: if these are what a definition says, so is the call
+abbrev pub Closes : (Receiver → ℕ → MutBor (List ℕ) → Calls Unit → MutBor (List ℕ) → Type 0) → (image store : List ℕ) (reading : ℕ) → Call → Type 0
+Closes P image store reading c =
+    (step : Receiver → List ℕ → ℕ → Step) → ((r : Receiver) (s : MutBor (List ℕ)) (x : Calls Unit) (t : MutBor (List ℕ)) → P r reading s x t → canceled x t.now ≡ step r s.now reading)
+    → c ≡ closing_call step image store reading
+
 unfoldable pub cancel_call : (image store : List ℕ) (reading : ℕ) → Call
 cancel_call image store reading = closing_call cancel_of image store reading
 
@@ -120,12 +138,12 @@ new_tests image protocol = (ltb (length image) 3931, short) ∷ (ltb 2 protocol,
 
 -- what try_new gives, as a call: its receiver is put into the record, and beside a refusal nothing is
 abbrev pub made_call : List ℕ → Option Refusal → Receiver → Call
-made_call image (some n) r = call (code_of n) image [] [] []
-made_call image none r =
+made_call image (Some n) r = call (code_of n) image [] [] []
+made_call image None r =
     record {
       code = 0;
       image = sets image 0 (image_of r);
-      receiver = some r;
+      receiver = Some r;
       store = [];
       output = [];
       answer = [];

@@ -7,39 +7,47 @@ ghost use Rattle.receiver.specs.Receive.{receive_of};
 ghost use Rattle.receiver.specs.Advance.{advance_of, cancel_of, release_of};
 ghost use Rattle.receiver.specs.Says.{made};
 ghost use Rattle.receiver_answers.specs.Answers.{reply_octets, reception_octets, no_octets};
-ghost use Rattle.receiver_c.specs.Calls.{call, step_call, new_gives, new_call, receive_call, advance_call, cancel_call, release_call};
+ghost use Rattle.receiver_c.specs.Calls.{call, read_of, Closes, new_gives, new_call, receive_call, advance_call, cancel_call, release_call};
 
 use codec_c::codes::{DONE, MISSPELLED, SHORT, UNNAMED};
 use image::cases::protocol_of;
 use image::segments::{SEGMENT_OCTETS, get_segment};
-use link::{HigherLayerProtocol, MobileIdentity};
-use receiver::{Receiver, TryNew, TryNewAnswer};
+use link::MobileIdentity;
+use receiver::{Call, Receiver};
 use receiver_answers::{
     RECEPTION_OCTETS, REPLY_OCTETS, cancel_code, error_code, put_advance, put_reception,
 };
 use receiver_image::{RECEIVER_OCTETS, get_receiver, put_receiver};
-use tsar::Segment;
 
 // The last protocol's number.
 const LAST_PROTOCOL: u8 = 2;
 
 // What try_new gave: a receiver that is made is put into record.
-fn put_made(record: &mut [u8], given: TryNew) -> u32
+fn put_made(record: &mut [u8], given: Call<()>) -> u32
     requires { 3931 ≤ length «record».old }
     ensures { call result «record».new [] [] [] ≡ new_gives «record».old (made given) }
 {
-    let answer = given.answer;
-    match answer {
-        TryNewAnswer::Refused(e) => error_code(e),
-        TryNewAnswer::Made => {
-            let receiver = given.receiver;
-            put_receiver(record, receiver);
+    match given.answer {
+        Err(e) => error_code(e),
+        Ok(()) => {
+            put_receiver(record, given.receiver);
             DONE
         }
     }
 }
 
+// The receiver that the record spells, where the answer has room for as many octets, or the number that refuses the call.
+fn read_receiver(record: &[u8], answer: &[u8], octets: usize) -> Result<Receiver, u32>
+    ensures { result ≡ read_of «record».now answer.now octets }
+{
+    if record.len() < RECEIVER_OCTETS || answer.len() < octets {
+        return Err(SHORT);
+    }
+    get_receiver(record).ok_or(MISSPELLED)
+}
+
 // Makes a receiver of one transaction with a peer. The record is put into record.
+#[tactic(auto, unfolding(crate::specs::Calls::new_call))]
 pub fn catkhize_receiver_new(
     record: &mut [u8],
     peer_kind: u8,
@@ -79,33 +87,8 @@ pub fn catkhize_receiver_new(
     put_made(record, given)
 }
 
-// A receive on the receiver that the record spells. The one that it leaves is put back, also beside a refusal.
-fn receive_into(
-    receiver: Receiver,
-    record: &mut [u8],
-    store: &mut [u8],
-    output: &mut [u8],
-    peer: MobileIdentity,
-    protocol: HigherLayerProtocol,
-    segment: Segment,
-    data: &[u8],
-    unparsed: usize,
-    reading: u64,
-    answer: &mut [u8],
-) -> u32
-    requires { (3931 ≤ length «record».old) × (55 ≤ length answer.old) }
-    ensures { call result «record».new store.new output.new answer.new ≡ step_call reception_octets «record».old answer.old (receive_of (interval_of receiver) receiver (record { peer = peer; protocol = protocol; segment = segment; octets = «data».now; unparsed = unparsed; reading = reading }) store.old output.old) }
-{
-    let given = receiver.receive(
-        peer, protocol, segment, data, unparsed, reading, store, output,
-    );
-    let received = given.receiver;
-    let reception = given.answer;
-    put_receiver(record, received);
-    put_reception(answer, reception)
-}
-
 // Takes the segment that SEGMENT spells, with its data. Answers RECEPTION.
+#[tactic(auto, unfolding(crate::specs::Calls::receive_call))]
 pub fn catkhize_receiver_receive(
     record: &mut [u8],
     store: &mut [u8],
@@ -123,68 +106,42 @@ pub fn catkhize_receiver_receive(
 ) -> u32
     ensures { call result «record».new store.new output.new answer.new ≡ receive_call «record».old store.old output.old peer_kind peer_width peer_value protocol protocol_octet segment.now «data».now unparsed reading answer.old }
 {
-    if record.len() < RECEIVER_OCTETS {
-        return SHORT;
-    }
     if segment.len() < SEGMENT_OCTETS {
         return SHORT;
     }
-    if answer.len() < RECEPTION_OCTETS {
-        return SHORT;
+    match read_receiver(record, answer, RECEPTION_OCTETS) {
+        Err(code) => code,
+        Ok(receiver) => {
+            let Some(arrived) = get_segment(segment) else {
+                return MISSPELLED;
+            };
+            if LAST_PROTOCOL < protocol {
+                return UNNAMED;
+            }
+            let peer = MobileIdentity {
+                kind: peer_kind,
+                width: peer_width,
+                value: peer_value,
+            };
+            let served = protocol_of(protocol, protocol_octet);
+            let received = receiver.receive(
+                peer,
+                served,
+                arrived,
+                data,
+                unparsed as usize,
+                reading,
+                store,
+                output,
+            );
+            put_receiver(record, received.receiver);
+            put_reception(answer, received.answer)
+        }
     }
-    let read = get_receiver(record);
-    if !read.ok {
-        return MISSPELLED;
-    }
-    let arrived = get_segment(segment);
-    if !arrived.ok {
-        return MISSPELLED;
-    }
-    if LAST_PROTOCOL < protocol {
-        return UNNAMED;
-    }
-    let receiver = read.receiver;
-    let s = arrived.segment;
-    let peer = MobileIdentity {
-        kind: peer_kind,
-        width: peer_width,
-        value: peer_value,
-    };
-    let served = protocol_of(protocol, protocol_octet);
-    receive_into(
-        receiver,
-        record,
-        store,
-        output,
-        peer,
-        served,
-        s,
-        data,
-        unparsed as usize,
-        reading,
-        answer,
-    )
-}
-
-// An advance on the receiver that the record spells. The one that it leaves is put back, also beside a refusal.
-fn advance_into(
-    receiver: Receiver,
-    record: &mut [u8],
-    store: &mut [u8],
-    reading: u64,
-    answer: &mut [u8],
-) -> u32
-    requires { (3931 ≤ length «record».old) × (46 ≤ length answer.old) }
-    ensures { call result «record».new store.new [] answer.new ≡ step_call reply_octets «record».old answer.old (advance_of receiver store.old reading) }
-{
-    let given = receiver.advance(reading, store);
-    let advanced = given.receiver;
-    let reply = given.answer;
-    put_receiver(record, advanced);
-    put_advance(answer, reply)
 }
 
 // Takes a reading of the clock, at which a deadline may be due. Answers REPLY.
+#[tactic(auto, unfolding(crate::specs::Calls::advance_call))]
 pub fn catkhize_receiver_advance(
     record: &mut [u8],
     store: &mut [u8],
@@ -193,70 +150,47 @@ pub fn catkhize_receiver_advance(
 ) -> u32
     ensures { call result «record».new store.new [] answer.new ≡ advance_call «record».old store.old reading answer.old }
 {
-    if record.len() < RECEIVER_OCTETS {
-        return SHORT;
+    match read_receiver(record, answer, REPLY_OCTETS) {
+        Err(code) => code,
+        Ok(receiver) => {
+            let advanced = receiver.advance(reading, store);
+            put_receiver(record, advanced.receiver);
+            put_advance(answer, advanced.answer)
+        }
     }
-    if answer.len() < REPLY_OCTETS {
-        return SHORT;
-    }
-    let read = get_receiver(record);
-    if !read.ok {
-        return MISSPELLED;
-    }
-    let receiver = read.receiver;
-    advance_into(receiver, record, store, reading, answer)
 }
 
-// A cancel on the receiver that the record spells. The one that it leaves is put back, also beside a refusal.
-fn cancel_into(receiver: Receiver, record: &mut [u8], store: &mut [u8], reading: u64) -> u32
-    requires { 3931 ≤ length «record».old }
-    ensures { call result «record».new store.new [] [] ≡ step_call no_octets «record».old [] (cancel_of receiver store.old reading) }
+// The call of a step that answers by its number alone: it is handed the receiver that the record spells, and what it leaves is put back, also beside a
+// refusal.
+fn close<F: FnOnce(Receiver, u64, &mut [u8]) -> Call<()>>(
+    record: &mut [u8],
+    store: &mut [u8],
+    reading: u64,
+    step: F,
+) -> u32
+    requires { F.IsAlwaysCallable step }
+    ensures { Closes (F.post step) «record».old store.old reading (call result «record».new store.new [] []) }
 {
-    let given = receiver.cancel(reading, store);
-    let canceled = given.receiver;
-    let answer = given.answer;
-    put_receiver(record, canceled);
-    cancel_code(answer)
+    match read_receiver(record, &[], 0) {
+        Err(code) => code,
+        Ok(receiver) => {
+            let closed = step(receiver, reading, store);
+            put_receiver(record, closed.receiver);
+            cancel_code(closed.answer)
+        }
+    }
 }
 
 // Cancels the reception.
 pub fn catkhize_receiver_cancel(record: &mut [u8], store: &mut [u8], reading: u64) -> u32
     ensures { call result «record».new store.new [] [] ≡ cancel_call «record».old store.old reading }
 {
-    if record.len() < RECEIVER_OCTETS {
-        return SHORT;
-    }
-    let read = get_receiver(record);
-    if !read.ok {
-        return MISSPELLED;
-    }
-    let receiver = read.receiver;
-    cancel_into(receiver, record, store, reading)
-}
-
-// A release of the receiver that the record spells. The one that it leaves is put back, also beside a refusal.
-fn release_into(receiver: Receiver, record: &mut [u8], store: &mut [u8], reading: u64) -> u32
-    requires { 3931 ≤ length «record».old }
-    ensures { call result «record».new store.new [] [] ≡ step_call no_octets «record».old [] (release_of receiver store.old reading) }
-{
-    let given = receiver.release(reading, store);
-    let released = given.receiver;
-    let answer = given.answer;
-    put_receiver(record, released);
-    cancel_code(answer)
+    close(record, store, reading, Receiver::cancel)
 }
 
 // Releases the store of a complete reception.
 pub fn catkhize_receiver_release(record: &mut [u8], store: &mut [u8], reading: u64) -> u32
     ensures { call result «record».new store.new [] [] ≡ release_call «record».old store.old reading }
 {
-    if record.len() < RECEIVER_OCTETS {
-        return SHORT;
-    }
-    let read = get_receiver(record);
-    if !read.ok {
-        return MISSPELLED;
-    }
-    let receiver = read.receiver;
-    release_into(receiver, record, store, reading)
+    close(record, store, reading, Receiver::release)
 }

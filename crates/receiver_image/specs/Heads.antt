@@ -1,5 +1,5 @@
 -- The first 91 octets of a receiver: layout version (the number 2), terms (23), progress (35), held marks (32). Assumes nothing.
-use Rattle.std.specs.Prelude.{◌≡◌, drop}
+use Rattle.std.specs.Prelude.{◌≡◌, drop, Option}
 use Rattle.std.proofs.Math.Path.{refl, ap, ap₂}
 use Rattle.std.proofs.Common.{sym, ◌∙◌, length-append, drop-drop, get_or-drop}
 use mathlib.Core.List.{List, [], ◌∷◌, ◌++◌, append_assoc}
@@ -8,12 +8,9 @@ use Rattle.std.proofs.Math.ListN.{length, get_or}
 use Rattle.std.proofs.Math.Seq.{sets}
 use Rattle.words.specs.declared.Words.{Words}
 use Rattle.tsar.specs.declared.OptionalServices.{OptionalServices}
-use Rattle.tsar.specs.declared.MessageLength.{MessageLength}
 use Rattle.link.specs.declared.MobileIdentity.{MobileIdentity}
 use Rattle.link.specs.declared.HigherLayerProtocol.{HigherLayerProtocol}
 use Rattle.receiver.specs.declared.ReceiverState.{ReceiverState}
-use Rattle.receiver.specs.declared.EndSequence.{EndSequence}
-use Rattle.receiver.specs.declared.Deadline.{Deadline}
 use Rattle.receiver.specs.declared.Terms.{Terms}
 use Rattle.receiver.specs.declared.Progress.{Progress}
 use Rattle.image.specs.Spelling.{Layout, spell_octet, read_octet, AnyOctet, octet_layout, spell_both, read_both, both_layout, as_layout, put_next}
@@ -113,10 +110,10 @@ pub record ProgressFits (p : Progress) : Type 0 where
   pub last : p.last_monotonic_ms < 18446744073709551616
 
 abbrev Standing : Type 0
-Standing = ReceiverState × (OptionalServices × (EndSequence × MessageLength))
+Standing = ReceiverState × (OptionalServices × (Option ℕ × Option ℕ))
 
 abbrev Times : Type 0
-Times = ℕ × (Deadline × ℕ)
+Times = ℕ × (Option ℕ × ℕ)
 
 abbrev read_standing : List ℕ → Standing
 read_standing = read_both state_of 2 (read_both optional_of 3 (read_both end_of 2 length_of))

@@ -1,16 +1,15 @@
--- The layouts of a receiver's state (2 octets), its end (2) and its deadline (9). What does not apply is 0. Assumes nothing.
-use Rattle.std.specs.Prelude.{◌≡◌, refl, cond, List, [], ◌∷◌, ◌++◌, ℕ, ◌<◌, eqb, length, get_or, drop}
+-- The layouts of a receiver's state (2 octets) and its end (2), and that of a deadline (9). What does not apply is 0. Assumes nothing.
+use Rattle.std.specs.Prelude.{◌≡◌, refl, cond, List, [], ◌∷◌, ◌++◌, ℕ, eqb, length, get_or, Option, Some, None}
 use Rattle.std.proofs.Common.{ap}
+use Rattle.std.specs.Int.{from_bool}
+use Rattle.std.specs.Option.{is_some, unwrap_or}
 use Rattle.response.specs.Responses.{status_number}
 use Rattle.receiver.specs.declared.ReceiverState.{ReceiverState}
 use Rattle.receiver.specs.declared.ReceiverState.TheVariants.{AwaitingBegin, Receiving, Complete, Failed, Expired, Canceled}
-use Rattle.receiver.specs.declared.EndSequence.{EndSequence}
-use Rattle.receiver.specs.declared.EndSequence.TheVariants as end
-use Rattle.receiver.specs.declared.Deadline.{Deadline}
-use Rattle.receiver.specs.declared.Deadline.TheVariants as deadline
 use Rattle.image.specs.Spelling.{Layout}
-use Rattle.image.specs.Numbers.{spell, number_of, number_back}
 use Rattle.image.specs.Cases.{status_of, status_back}
+pub use Rattle.image_link.specs.Deadlines.{deadline_flag, deadline_or0, deadline_from, DeadlineFits, deadline_layout}
+unfoldable pub use Rattle.image_link.specs.Deadlines.{deadline_image, deadline_of}
 
 -- ---- a state: number, status of a failure
 
@@ -63,68 +62,32 @@ state_layout = record { wide = λ s f. state_wide s; reads_wide = λ l. state_wi
 
 -- ---- an end: flag, sequence
 
-abbrev pub end_flag : EndSequence → ℕ
-end_flag end.Unknown = 0
-end_flag (end.At s) = 1
+abbrev pub end_flag : Option ℕ → ℕ
+end_flag e = from_bool (is_some e)
 
-abbrev pub end_or0 : EndSequence → ℕ
-end_or0 end.Unknown = 0
-end_or0 (end.At s) = s
+abbrev pub end_or0 : Option ℕ → ℕ
+end_or0 e = unwrap_or e 0
 
-unfoldable pub end_image : EndSequence → List ℕ
+unfoldable pub end_image : Option ℕ → List ℕ
 end_image e = end_flag e ∷ end_or0 e ∷ []
 
-abbrev pub end_from : ℕ → ℕ → EndSequence
-end_from flag s = cond (eqb flag 0) end.Unknown (end.At s)
+abbrev pub end_from : ℕ → ℕ → Option ℕ
+end_from flag s = cond (eqb flag 0) None (Some s)
 
-unfoldable pub end_of : List ℕ → EndSequence
+unfoldable pub end_of : List ℕ → Option ℕ
 end_of l = end_from (get_or l 0 0) (get_or l 1 0)
 
-abbrev pub AnyEnd : EndSequence → Type 0
+abbrev pub AnyEnd : Option ℕ → Type 0
 AnyEnd e = Unit {0}
 
-end_wide : (e : EndSequence) → length (end_image e) ≡ 2
+end_wide : (e : Option ℕ) → length (end_image e) ≡ 2
 unfolding end_image
 end_wide e = refl
 
-end_back : (e : EndSequence) → AnyEnd e → (rest : List ℕ) → end_of (end_image e ++ rest) ≡ e
+end_back : (e : Option ℕ) → AnyEnd e → (rest : List ℕ) → end_of (end_image e ++ rest) ≡ e
 unfolding end_image end_of
-end_back end.Unknown f rest = refl
-end_back (end.At s) f rest = refl
+end_back None f rest = refl
+end_back (Some s) f rest = refl
 
 pub end_layout : Layout end_image end_of 2 AnyEnd
 end_layout = record { wide = λ e f. end_wide e; reads_wide = λ l. end_wide (end_of l); back = end_back }
-
--- ---- a deadline: flag, reading
-
-abbrev pub deadline_flag : Deadline → ℕ
-deadline_flag deadline.Off = 0
-deadline_flag (deadline.At t) = 1
-
-abbrev pub deadline_or0 : Deadline → ℕ
-deadline_or0 deadline.Off = 0
-deadline_or0 (deadline.At t) = t
-
-unfoldable pub deadline_image : Deadline → List ℕ
-deadline_image d = deadline_flag d ∷ spell 8 (deadline_or0 d)
-
-abbrev pub deadline_from : ℕ → ℕ → Deadline
-deadline_from flag t = cond (eqb flag 0) deadline.Off (deadline.At t)
-
-unfoldable pub deadline_of : List ℕ → Deadline
-deadline_of l = deadline_from (get_or l 0 0) (number_of 8 (drop 1 l))
-
-abbrev pub DeadlineFits : Deadline → Type 0
-DeadlineFits d = deadline_or0 d < 18446744073709551616
-
-deadline_wide : (d : Deadline) → length (deadline_image d) ≡ 9
-unfolding deadline_image spell
-deadline_wide d = refl
-
-deadline_back : (d : Deadline) → DeadlineFits d → (rest : List ℕ) → deadline_of (deadline_image d ++ rest) ≡ d
-unfolding deadline_image deadline_of
-deadline_back deadline.Off f rest = refl
-deadline_back (deadline.At t) f rest = ap deadline.At (number_back 8 t rest f)
-
-pub deadline_layout : Layout deadline_image deadline_of 9 DeadlineFits
-deadline_layout = record { wide = λ d f. deadline_wide d; reads_wide = λ l. deadline_wide (deadline_of l); back = deadline_back }

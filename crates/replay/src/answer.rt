@@ -1,4 +1,4 @@
-// What a call gave, as a number, against the front of the recorded answer.
+// What a call gave, as the number of the C interface, against the front of the recorded answer.
 use crate::number::{be8, be16};
 use codec_c::codes::{DONE, SHORT};
 
@@ -12,41 +12,26 @@ const FIRST_REFUSAL: u32 = 256;
 
 // Whether an answer begins with 01 n m, for document 01's refusal n/m. The exports' own, from 256 on, are in no answer.
 pub fn is_refusal(code: u32, expected: &[u8]) -> bool {
-    if code < FIRST_REFUSAL {
-        return false;
-    }
-    if SHORT <= code {
-        return false;
-    }
-    if be8(expected, 0) != REFUSED {
-        return false;
-    }
-    be16(expected, 1) as u32 == code
+    (FIRST_REFUSAL..SHORT).contains(&code)
+        && be8(expected, 0) == REFUSED
+        && be16(expected, 1) as u32 == code
 }
 
 // Whether an answer is 01 n m alone.
 pub fn is_refused(code: u32, expected: &[u8]) -> bool {
-    if expected.len() != REFUSAL {
-        return false;
-    }
-    is_refusal(code, expected)
+    expected.len() == REFUSAL && is_refusal(code, expected)
 }
 
 // Whether an answer has n octets and begins with an octet.
 pub fn begins(expected: &[u8], n: usize, first: u8) -> bool {
-    if expected.len() != n {
-        return false;
-    }
-    be8(expected, 0) == first
+    expected.len() == n && be8(expected, 0) == first
 }
 
 // Whether an answer is n octets that begin with 00 where the call is done, and else 01 n m and so many as follow 00.
 pub fn is_answer(code: u32, expected: &[u8], done: usize, refused: usize) -> bool {
     if code == DONE {
-        return begins(expected, done, 0);
+        begins(expected, done, 0)
+    } else {
+        expected.len() == refused && is_refusal(code, expected)
     }
-    if expected.len() != refused {
-        return false;
-    }
-    is_refusal(code, expected)
 }

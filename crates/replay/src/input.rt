@@ -2,13 +2,14 @@
 use crate::case::LONG;
 use crate::entries::{has_entries, is_head};
 use crate::number::{be8, be16, from};
+use crate::op::Op;
 use crate::opening::after_plan;
-use crate::planning::{FROZEN_PLAN, WINDOW, message_length, octets_length};
+use crate::planning::{
+    Asked, FROZEN_INPUT, MESSAGE_INPUT, Planner, SENDER_ENTRIES, WINDOW, message_length,
+};
 use crate::terms::PROTOCOL;
-use crate::{codec, opening, receiving, sending};
+use crate::{codec, receiving, sending};
 use image_link::get_response;
-
-const PLAN: u8 = 0x10;
 
 const LAST_PROTOCOL: u8 = 2;
 
@@ -22,11 +23,7 @@ const DATA_LENGTH: usize = 18;
 // The first octet of a sender's record.
 const LAYOUT: u8 = 2;
 
-// Lengths of inputs; of ops 11 and 36 up to the heads.
-const PLAN_INPUT: usize = 16;
-
-const FROZEN_INPUT: usize = 26;
-
+// Lengths of inputs.
 const TRY_NEW_INPUT: usize = 30;
 
 const RECEIVE_INPUT: usize = 43;
@@ -34,8 +31,6 @@ const RECEIVE_INPUT: usize = 43;
 const READING: usize = 8;
 
 const PLANNED_INPUT: usize = 37;
-
-const FROZEN_SENDER_INPUT: usize = 47;
 
 const SUBMITTED_INPUT: usize = 25;
 
@@ -51,138 +46,81 @@ fn has_protocol(s: &[u8]) -> bool {
 }
 
 fn is_encode(input: &[u8]) -> bool {
-    if input.len() != codec::DATA + be16(input, DATA_LENGTH) as usize {
-        return false;
-    }
-    if codec::MAX_ROOM < be16(input, codec::ROOM) as usize {
-        return false;
-    }
-    is_head(from(input, codec::HEAD))
+    input.len() == codec::DATA + be16(input, DATA_LENGTH) as usize
+        && be16(input, codec::ROOM) as usize <= codec::MAX_ROOM
+        && is_head(from(input, codec::HEAD))
 }
 
-// An input that begins with plan_message's and has n octets.
-fn is_plan(op: u8, input: &[u8], n: usize) -> bool {
-    if input.len() != n {
-        return false;
-    }
-    if LONG < octets_length(op, input) {
-        return false;
-    }
-    be8(input, WINDOW) <= LAST_WINDOW
-}
-
-// An input that begins with the frozen check's and has n octets up to the heads.
-fn is_frozen(op: u8, input: &[u8], n: usize) -> bool {
-    if input.len() < n {
-        return false;
-    }
-    if LONG < octets_length(op, input) {
-        return false;
-    }
-    if LONG < message_length(input) {
-        return false;
-    }
-    has_entries(op, input)
-}
-
-fn is_try_new(input: &[u8]) -> bool {
-    if input.len() != TRY_NEW_INPUT {
-        return false;
-    }
-    has_protocol(input)
+// An input that asks a planner for a plan: plan_message's of so many octets, or the frozen check's with its entries from a place on.
+fn is_asked(planner: Planner, input: &[u8], octets: usize, entries_at: usize) -> bool {
+    let asked = Asked::new(planner, input, entries_at);
+    asked.octets_length() <= LONG
+        && match asked {
+            Asked::Message(_) => input.len() == octets && be8(input, WINDOW) <= LAST_WINDOW,
+            Asked::Frozen { entries, .. } => {
+                entries_at <= input.len()
+                    && message_length(input) <= LONG
+                    && has_entries(input, entries)
+            }
+        }
 }
 
 fn is_receive(input: &[u8]) -> bool {
-    if input.len() != RECEIVE_INPUT {
-        return false;
-    }
-    if receiving::MAX_DATA < be16(input, receiving::DATA_LENGTH) as usize {
-        return false;
-    }
-    if !has_protocol(input) {
-        return false;
-    }
-    is_head(from(input, receiving::HEAD))
-}
-
-fn is_opening(op: u8, input: &[u8]) -> bool {
-    if !has_protocol(after_plan(op, input)) {
-        return false;
-    }
-    if op == opening::PLANNED {
-        return is_plan(op, input, PLANNED_INPUT);
-    }
-    is_frozen(op, input, FROZEN_SENDER_INPUT)
+    input.len() == RECEIVE_INPUT
+        && be16(input, receiving::DATA_LENGTH) as usize <= receiving::MAX_DATA
+        && has_protocol(input)
+        && is_head(from(input, receiving::HEAD))
 }
 
 // An input of n octets that begins with a token.
 fn has_token(input: &[u8], n: usize) -> bool {
-    if input.len() != n {
-        return false;
-    }
-    be8(input, sending::FOREIGN_FLAG) <= 1
+    input.len() == n && be8(input, sending::FOREIGN_FLAG) <= 1
 }
 
 // The cause is 0 unless the failure is Rejected.
 fn is_failed(input: &[u8]) -> bool {
-    if !has_token(input, FAILED_INPUT) {
-        return false;
-    }
-    if be8(input, sending::TOKEN_OCTETS) == 0 {
-        return true;
-    }
-    if LAST_FAILURE < be8(input, sending::TOKEN_OCTETS) {
-        return false;
-    }
-    be8(input, sending::CAUSE) == 0
+    let failure = be8(input, sending::TOKEN_OCTETS);
+    has_token(input, FAILED_INPUT)
+        && (failure == 0 || failure <= LAST_FAILURE && be8(input, sending::CAUSE) == 0)
 }
 
 fn is_response(input: &[u8]) -> bool {
-    if input.len() != RESPONSE_INPUT {
-        return false;
+    input.len() == RESPONSE_INPUT
+        && has_protocol(input)
+        && get_response(&sending::response_of(input)).is_some()
+}
+
+// An input of a call on a receiver.
+fn is_receiving(call: receiving::Call, input: &[u8]) -> bool {
+    match call {
+        receiving::Call::TryNew => input.len() == TRY_NEW_INPUT && has_protocol(input),
+        receiving::Call::Receive => is_receive(input),
+        receiving::Call::Advance | receiving::Call::Cancel => input.len() == READING,
     }
-    if !has_protocol(input) {
-        return false;
-    }
-    let response = sending::response_of(input);
-    let read = get_response(&response);
-    read.ok
 }
 
 // An input of a call on a sender.
-fn is_call(op: u8, input: &[u8]) -> bool {
-    match op {
-        sending::ADVANCE => input.len() == READING,
-        sending::SUBMITTED => has_token(input, SUBMITTED_INPUT),
-        sending::ACCEPTED => has_token(input, ACCEPTED_INPUT),
-        sending::LOWER_FAILED => is_failed(input),
-        sending::RECEIVE_RESPONSE => is_response(input),
-        sending::CANCEL => input.len() == READING,
-        _ => false,
+fn is_sending(call: sending::Call, input: &[u8]) -> bool {
+    match call {
+        sending::Call::Advance | sending::Call::Cancel => input.len() == READING,
+        sending::Call::Submitted => has_token(input, SUBMITTED_INPUT),
+        sending::Call::Accepted => has_token(input, ACCEPTED_INPUT),
+        sending::Call::LowerFailed => is_failed(input),
+        sending::Call::ReceiveResponse => is_response(input),
     }
 }
 
-// A call on a sender, where there is one: its record is spelled out.
-fn is_sending(op: u8, input: &[u8], record: &[u8]) -> bool {
-    if be8(record, 0) != LAYOUT {
-        return false;
-    }
-    is_call(op, input)
-}
-
-// Whether an input is one of an op, on the record that the case before left.
-pub fn is_input(op: u8, input: &[u8], record: &[u8]) -> bool {
+// Whether an input is one of an op, on the record that the case before left. A call on a sender needs one: its record is spelled out.
+pub fn is_input(op: Op, input: &[u8], record: &[u8]) -> bool {
     match op {
-        codec::DECODE => 0 < input.len(),
-        codec::ENCODE => is_encode(input),
-        PLAN => is_plan(op, input, PLAN_INPUT),
-        FROZEN_PLAN => is_frozen(op, input, FROZEN_INPUT),
-        receiving::TRY_NEW => is_try_new(input),
-        receiving::RECEIVE => is_receive(input),
-        receiving::ADVANCE => input.len() == READING,
-        receiving::CANCEL => input.len() == READING,
-        opening::PLANNED => is_opening(op, input),
-        opening::FROZEN => is_opening(op, input),
-        _ => is_sending(op, input, record),
+        Op::Codec(codec::Call::Decode) => !input.is_empty(),
+        Op::Codec(codec::Call::Encode) => is_encode(input),
+        Op::Plan(planner) => is_asked(planner, input, MESSAGE_INPUT, FROZEN_INPUT),
+        Op::Receiver(call) => is_receiving(call, input),
+        Op::NewSender(planner) => {
+            has_protocol(after_plan(planner, input))
+                && is_asked(planner, input, PLANNED_INPUT, SENDER_ENTRIES)
+        }
+        Op::Sender(call) => be8(record, 0) == LAYOUT && is_sending(call, input),
     }
 }

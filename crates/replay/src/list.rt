@@ -1,88 +1,65 @@
 // Reading a list case by case: op, n, input, m, expected answer.
-ghost use Rattle.std.specs.Prelude.{◌≤◌, length, IfOk};
-
-use crate::number::{be8, be16};
+use crate::number::be16;
 use std::io;
-use std::io::Read;
+use std::io::{ErrorKind, Read};
 
 const LENGTH_OCTETS: usize = 2;
-
-const OPENING_OCTETS: usize = 3;
 
 // The largest input and answer of a list.
 pub const MAX_INPUT: usize = 8192;
 
 pub const MAX_ANSWER: usize = 4096;
 
-// The next case, whose input and expected answer stand at the start of lent octets; or the list ends before it, or within it.
+// A case, whose input and expected answer stand in lent octets.
 #[derive(Clone, Copy)]
-pub enum Next {
-    Case {
-        op: u8,
-        input: usize,
-        expected: usize,
-    },
-    End,
+pub struct Case<'a> {
+    pub op: u8,
+    pub input: &'a [u8],
+    pub expected: &'a [u8],
+}
+
+// Why there is no case: the list ends within it, or it can't be read.
+#[derive(Drop)]
+pub enum ListError {
     Cut,
+    Io(io::Error),
 }
 
-// Fills a buffer as far as the file goes, and says how many octets it put at the start of the buffer.
-fn read_full(file: &mut impl Read, buffer: &mut [u8]) -> io::Result<usize>
-    ensures { IfOk result (λ n. n ≤ length buffer.new) }
-{
-    let mut done = 0;
-    while done < buffer.len() {
-        let n = file.read(&mut buffer[done..])?;
-        if n == 0 {
-            break;
+impl From<io::Error> for ListError {
+    fn from(e: io::Error) -> ListError {
+        match e.kind() {
+            ErrorKind::UnexpectedEof => ListError::Cut,
+            _ => ListError::Io(e),
         }
-        done += n;
     }
-    Ok(done)
 }
 
-// Fills the first n octets of a buffer, and says whether there were so many.
-fn fill(file: &mut impl Read, n: usize, buffer: &mut [u8]) -> io::Result<bool> {
-    if buffer.len() < n {
-        return Ok(false);
-    }
-    Ok(read_full(file, &mut buffer[0..n])? == n)
-}
-
-fn expected_answer(
-    file: &mut impl Read,
-    op: u8,
-    input: usize,
-    answer: &mut [u8],
-) -> io::Result<Next> {
+// The number of octets that a field has, and then the field, at the front of lent octets.
+fn field<'a>(file: &mut impl Read, lent: &'a mut [u8]) -> Result<&'a [u8], ListError> {
     let mut length = [0u8; LENGTH_OCTETS];
-    if read_full(file, &mut length)? != LENGTH_OCTETS {
-        return Ok(Next::Cut);
+    file.read_exact(&mut length)?;
+    let n = be16(&length, 0) as usize;
+    if lent.len() < n {
+        return Err(ListError::Cut);
     }
-    let m = be16(&length, 0) as usize;
-    if !fill(file, m, answer)? {
-        return Ok(Next::Cut);
-    }
-    Ok(Next::Case {
-        op,
-        input,
-        expected: m,
-    })
+    let octets = &mut lent[..n];
+    file.read_exact(octets)?;
+    Ok(octets)
 }
 
-pub fn next_case(file: &mut impl Read, input: &mut [u8], answer: &mut [u8]) -> io::Result<Next> {
-    let mut opening = [0u8; OPENING_OCTETS];
-    let got = read_full(file, &mut opening)?;
-    if got == 0 {
-        return Ok(Next::End);
+// The next case, or none where the list ends.
+pub fn next_case<'a>(
+    file: &mut impl Read,
+    input: &'a mut [u8],
+    expected: &'a mut [u8],
+) -> Result<Option<Case<'a>>, ListError> {
+    let mut op = [0u8];
+    if file.read(&mut op)? == 0 {
+        return Ok(None);
     }
-    if got != OPENING_OCTETS {
-        return Ok(Next::Cut);
-    }
-    let op = be8(&opening, 0);
-    let n = be16(&opening, 1) as usize;
-    if !fill(file, n, input)? {
-        return Ok(Next::Cut);
-    }
-    expected_answer(file, op, n, answer)
+    Ok(Some(Case {
+        op: op[0],
+        input: field(file, input)?,
+        expected: field(file, expected)?,
+    }))
 }

@@ -8,6 +8,7 @@ mod entries;
 mod input;
 mod list;
 mod number;
+mod op;
 mod opening;
 mod pattern;
 mod plan;
@@ -22,8 +23,8 @@ mod terms;
 use std::io;
 
 fn main(rt: HostRuntime) -> io::Result<()> {
-    run::replay(&rt, b"codec", "codec.rec")?;
-    run::replay(&rt, b"plan", "plan.rec")?;
-    run::replay(&rt, b"receiver", "receiver.rec")?;
-    run::replay(&rt, b"sender", "sender.rec")
+    run::replay(&rt, "codec", "codec.rec")?;
+    run::replay(&rt, "plan", "plan.rec")?;
+    run::replay(&rt, "receiver", "receiver.rec")?;
+    run::replay(&rt, "sender", "sender.rec")
 }

@@ -16,26 +16,18 @@ fn pattern_octet(i: usize, seed: u8) -> u8 {
     ((seed as usize + 7 * (i % 256) + i / 256 % 256) % 256) as u8
 }
 
-// The first n octets of out become the pattern's, as far as it goes.
-pub fn pattern(out: &mut [u8], n: usize, seed: u8) {
-    let mut i: usize = 0;
-    while i < n {
-        if out.len() <= i {
-            return;
-        }
-        out[i] = pattern_octet(i, seed);
-        i += 1;
+// Octets become the pattern's.
+pub fn pattern(out: &mut [u8], seed: u8) {
+    for (i, x) in out.iter_mut().enumerate() {
+        *x = pattern_octet(i, seed);
     }
 }
 
 // The pattern, with the octet at a position changed by exclusive or, where there is such an octet.
-pub fn patched(out: &mut [u8], n: usize, seed: u8, position: usize, change: u8) {
-    pattern(out, n, seed);
-    if n <= position {
-        return;
-    }
+pub fn patched(out: &mut [u8], seed: u8, position: usize, change: u8) {
+    pattern(out, seed);
     if position < out.len() {
-        out[position] = out[position] ^ change;
+        out[position] ^= change;
     }
 }
 
@@ -47,11 +39,5 @@ fn adler_octet(sum: u64, x: u8) -> u64 {
 
 // The sum with the octets of s.
 pub fn adler(start: u64, s: &[u8]) -> u64 {
-    let mut sum = start;
-    let mut i: usize = 0;
-    while i < s.len() {
-        sum = adler_octet(sum, s[i]);
-        i += 1;
-    }
-    sum
+    s.iter().fold(start, |sum, &x| adler_octet(sum, x))
 }

@@ -1,13 +1,24 @@
 // The plans of plan.rec and sender.rec. Ops 10 and 30 begin with plan_message's input, ops 11 and 36 with that of the frozen check. The octets
 // of a plan are its message, with the frozen check its joined data.
-use crate::entries::{HEADS_OCTETS, entries, put_heads};
-use crate::number::{be8, be16, be32, front};
+use crate::case::Lent;
+use crate::entries::heads_of;
+use crate::number::{be8, be16, be32, from};
 use crate::pattern::{patched, pattern};
 use plan_c::{catkhize_plan_message, catkhize_try_from_frozen};
 
-pub const FROZEN_PLAN: u8 = 0x11;
+#[derive(Clone, Copy)]
+pub enum Planner {
+    Message,
+    Frozen,
+}
 
-const FROZEN_SENDER: u8 = 0x36;
+// The octets of plan_message's input, and of the frozen check's up to the entries.
+pub const MESSAGE_INPUT: usize = 16;
+
+pub const FROZEN_INPUT: usize = 26;
+
+// The offset of the entries in op 36's input, behind what the sender is made with.
+pub const SENDER_ENTRIES: usize = 47;
 
 // Offsets in plan_message's input.
 const SEED: usize = 4;
@@ -23,7 +34,7 @@ pub const WINDOW: usize = 14;
 pub const VERSION: usize = 15;
 
 // Offsets in the frozen check's input, up to the heads.
-pub const MESSAGE_LENGTH: usize = 2;
+const MESSAGE_LENGTH: usize = 2;
 
 const MESSAGE_SEED: usize = 6;
 
@@ -41,45 +52,61 @@ const PATCH: usize = 21;
 
 const PATCH_XOR: usize = 25;
 
-// Whether an op has a frozen plan.
-pub fn is_frozen(op: u8) -> bool {
-    match op {
-        FROZEN_PLAN => true,
-        FROZEN_SENDER => true,
-        _ => false,
+// What an input asks of a planner.
+#[derive(Clone, Copy)]
+pub enum Asked<'a> {
+    Message(&'a [u8]),
+    Frozen { input: &'a [u8], entries: &'a [u8] },
+}
+
+impl<'a> Asked<'a> {
+    // What an input asks of a planner, where a frozen plan's entries stand from a place on.
+    pub fn new(planner: Planner, input: &'a [u8], entries_at: usize) -> Asked<'a> {
+        match planner {
+            Planner::Message => Asked::Message(input),
+            Planner::Frozen => Asked::Frozen {
+                input,
+                entries: from(input, entries_at),
+            },
+        }
+    }
+
+    // The number of a plan's octets.
+    pub fn octets_length(self) -> usize {
+        match self {
+            Asked::Message(input) => be32(input, 0) as usize,
+            Asked::Frozen { input, .. } => be32(input, JOINED_LENGTH) as usize,
+        }
+    }
+
+    // Makes the plan. Its octets go to the front of the store, the frozen check's message to the front of the output.
+    pub fn make_plan(self, lent: &mut Lent) -> u32 {
+        let n = self.octets_length();
+        match self {
+            Asked::Message(input) => planned(input, n, &mut lent.store, &mut lent.plan),
+            Asked::Frozen { input, entries } => frozen(
+                input,
+                &heads_of(entries),
+                n,
+                &mut lent.store,
+                &mut lent.output,
+                &mut lent.plan,
+            ),
+        }
     }
 }
 
-// The number of a plan's octets.
-pub fn octets_length(op: u8, input: &[u8]) -> usize {
-    if is_frozen(op) {
-        be32(input, JOINED_LENGTH) as usize
-    } else {
-        be32(input, 0) as usize
-    }
-}
-
+// The length of the frozen check's message.
 pub fn message_length(input: &[u8]) -> usize {
     be32(input, MESSAGE_LENGTH) as usize
 }
 
-// The octets of a plan.
-fn fill_octets(op: u8, input: &[u8], octets: &mut [u8]) {
-    let n = octets_length(op, input);
-    if is_frozen(op) {
-        patched(
-            octets,
-            n,
-            be8(input, JOINED_SEED),
-            be32(input, PATCH) as usize,
-            be8(input, PATCH_XOR),
-        );
-    } else {
-        pattern(octets, n, be8(input, SEED));
-    }
-}
-
-fn planned(input: &[u8], message: &[u8], plan: &mut [u8]) -> u32 {
+// A plan of a message of n octets. Store and plan stand apart, here and in frozen. tried: `&mut lent.store[..n]` beside `&mut lent.plan`,
+// 'a field is lent as `&mut` behind a reference that is lent'.
+fn planned(input: &[u8], n: usize, store: &mut [u8], plan: &mut [u8]) -> u32 {
+    let n = n.min(store.len());
+    let message = &mut store[..n];
+    pattern(message, be8(input, SEED));
     catkhize_plan_message(
         message,
         be32(input, BUDGET) as u64,
@@ -91,7 +118,26 @@ fn planned(input: &[u8], message: &[u8], plan: &mut [u8]) -> u32 {
     )
 }
 
-fn checked(input: &[u8], heads: &[u8], joined: &[u8], message: &[u8], plan: &mut [u8]) -> u32 {
+// A frozen plan with n octets of joined data.
+fn frozen(
+    input: &[u8],
+    heads: &[u8],
+    n: usize,
+    store: &mut [u8],
+    output: &mut [u8],
+    plan: &mut [u8],
+) -> u32 {
+    let n = n.min(store.len());
+    let joined = &mut store[..n];
+    let m = message_length(input).min(output.len());
+    let message = &mut output[..m];
+    patched(
+        joined,
+        be8(input, JOINED_SEED),
+        be32(input, PATCH) as usize,
+        be8(input, PATCH_XOR),
+    );
+    pattern(message, be8(input, MESSAGE_SEED));
     catkhize_try_from_frozen(
         heads,
         be16(input, 0) as u64,
@@ -102,29 +148,4 @@ fn checked(input: &[u8], heads: &[u8], joined: &[u8], message: &[u8], plan: &mut
         be32(input, FROZEN_CEILING) as u64,
         plan,
     )
-}
-
-fn frozen(op: u8, input: &[u8], joined: &[u8], message: &mut [u8], plan: &mut [u8]) -> u32 {
-    let n = message_length(input);
-    let mut heads = [0u8; HEADS_OCTETS];
-    put_heads(entries(op, input), &mut heads);
-    pattern(message, n, be8(input, MESSAGE_SEED));
-    checked(input, &heads, joined, front(message, n), plan)
-}
-
-// Makes the plan that an input asks for. Its octets go to the front of octets, the frozen check's message to the front of message.
-pub fn make_plan(
-    op: u8,
-    input: &[u8],
-    octets: &mut [u8],
-    message: &mut [u8],
-    plan: &mut [u8],
-) -> u32 {
-    fill_octets(op, input, octets);
-    let lent = front(octets, octets_length(op, input));
-    if is_frozen(op) {
-        frozen(op, input, lent, message, plan)
-    } else {
-        planned(input, lent, plan)
-    }
 }

@@ -1,4 +1,5 @@
 // sender.rec: the calls that are made on the record that the call before left.
+use crate::case::Lent;
 use crate::number::{be8, be16, be64, from, part};
 use crate::reception::turned;
 use crate::state::OWN;
@@ -8,18 +9,15 @@ use sender_c::{
     catkhize_sender_lower_failed, catkhize_sender_receive_response, catkhize_sender_submitted,
 };
 
-// The ops.
-pub const ADVANCE: u8 = 0x31;
-
-pub const SUBMITTED: u8 = 0x32;
-
-pub const ACCEPTED: u8 = 0x33;
-
-pub const LOWER_FAILED: u8 = 0x34;
-
-pub const RECEIVE_RESPONSE: u8 = 0x35;
-
-pub const CANCEL: u8 = 0x37;
+#[derive(Clone, Copy)]
+pub enum Call {
+    Advance,
+    Submitted,
+    Accepted,
+    LowerFailed,
+    ReceiveResponse,
+    Cancel,
+}
 
 // The number of the sender that a foreign token belongs to.
 const FOREIGN: u64 = 137;
@@ -63,36 +61,36 @@ fn number_of(input: &[u8]) -> u64 {
     }
 }
 
-fn submitted(input: &[u8], record: &mut [u8], answer: &mut [u8]) -> u32 {
+fn submitted(input: &[u8], lent: &mut Lent) -> u32 {
     catkhize_sender_submitted(
-        record,
+        &mut lent.record,
         number_of(input),
         be64(input, 0),
         be64(input, TOKEN_OCTETS),
         be64(input, OBSERVED),
-        answer,
+        &mut lent.answer,
     )
 }
 
-fn accepted(input: &[u8], record: &mut [u8], answer: &mut [u8]) -> u32 {
+fn accepted(input: &[u8], lent: &mut Lent) -> u32 {
     catkhize_sender_accepted(
-        record,
+        &mut lent.record,
         number_of(input),
         be64(input, 0),
         be64(input, TOKEN_OCTETS),
-        answer,
+        &mut lent.answer,
     )
 }
 
-fn lower_failed(input: &[u8], record: &mut [u8], answer: &mut [u8]) -> u32 {
+fn lower_failed(input: &[u8], lent: &mut Lent) -> u32 {
     catkhize_sender_lower_failed(
-        record,
+        &mut lent.record,
         number_of(input),
         be64(input, 0),
         be8(input, TOKEN_OCTETS),
         be8(input, CAUSE),
         be64(input, FAILED_AT),
-        answer,
+        &mut lent.answer,
     )
 }
 
@@ -106,11 +104,11 @@ pub fn response_of(input: &[u8]) -> [u8; RESPONSE_OCTETS] {
     response
 }
 
-fn receive_response(input: &[u8], record: &mut [u8], answer: &mut [u8]) -> u32 {
+fn receive_response(input: &[u8], lent: &mut Lent) -> u32 {
     let t = terms_at(input);
     let response = response_of(input);
     catkhize_sender_receive_response(
-        record,
+        &mut lent.record,
         t.kind,
         t.width,
         t.value,
@@ -119,18 +117,28 @@ fn receive_response(input: &[u8], record: &mut [u8], answer: &mut [u8]) -> u32 {
         &response,
         be16(input, UNPARSED) as u64,
         be64(input, ANSWERED_AT),
-        answer,
+        &mut lent.answer,
     )
 }
 
-// The call of a case of sender.rec that opens no list.
-pub fn sender_call(op: u8, input: &[u8], record: &mut [u8], answer: &mut [u8]) -> u32 {
-    match op {
-        ADVANCE => catkhize_sender_advance(record, be64(input, 0), answer),
-        SUBMITTED => submitted(input, record, answer),
-        ACCEPTED => accepted(input, record, answer),
-        LOWER_FAILED => lower_failed(input, record, answer),
-        RECEIVE_RESPONSE => receive_response(input, record, answer),
-        _ => catkhize_sender_cancel(record, be64(input, 0), answer),
+impl Call {
+    // The call of a case of sender.rec that opens no list.
+    pub fn make(self, input: &[u8], lent: &mut Lent) -> u32 {
+        match self {
+            Call::Advance => catkhize_sender_advance(
+                &mut lent.record,
+                be64(input, 0),
+                &mut lent.answer,
+            ),
+            Call::Submitted => submitted(input, lent),
+            Call::Accepted => accepted(input, lent),
+            Call::LowerFailed => lower_failed(input, lent),
+            Call::ReceiveResponse => receive_response(input, lent),
+            Call::Cancel => catkhize_sender_cancel(
+                &mut lent.record,
+                be64(input, 0),
+                &mut lent.answer,
+            ),
+        }
     }
 }

@@ -1,4 +1,4 @@
-// Peer and protocol.
+// Peer and protocol. The C interface takes the five one by one.
 use crate::number::{be8, be64};
 
 const WIDTH: usize = 1;

@@ -1,25 +1,22 @@
 -- What is said of a section of a capture (docs/CAPTURE.md, 'Sections'): a section is the list of what happened in it, the oldest first.
-use Rattle.std.specs.Prelude.{ℕ, Bool, true, false, cond, not, ◌&&◌, ◌||◌, List, [], ◌∷◌, ◌≡◌, eqb, ltb, length, get_or, drop}
+use Rattle.std.specs.Prelude.{ℕ, Bool, true, false, cond, not, ◌&&◌, ◌||◌, List, [], ◌∷◌, ◌≡◌, eqb, ltb, length, get_or, drop, Option, Some, None}
 use Rattle.image.specs.Numbers.{number_of}
-use Rattle.report.specs.declared.outcome.Handed.{Handed}
-use Rattle.report.specs.declared.outcome.Handed.TheVariants as handed
 use Rattle.report.specs.declared.outcome.Event.{Event}
 use Rattle.report.specs.declared.outcome.Event.TheVariants as event
 use Rattle.report.specs.declared.outcome.Summary.{Summary}
-use Rattle.report.specs.declared.outcome.Results.{Results}
 use Rattle.report.specs.declared.outcome.Told.{Told}
 
 -- ---- the rule
 
 -- whether something was handed over
-abbrev pub hands : Handed → Bool
-hands handed.Nothing = false
-hands (handed.Octets n) = true
+abbrev pub hands : Option ℕ → Bool
+hands None = false
+hands (Some n) = true
 
 -- what one event handed over
-abbrev pub handed_by : Event → Handed
+abbrev pub handed_by : Event → Option ℕ
 handed_by (event.Call h f) = h
-handed_by event.BadLine = handed.Nothing
+handed_by event.BadLine = None
 
 -- whether the receiver is Failed after it
 abbrev pub fails_at : Event → Bool
@@ -31,13 +28,13 @@ bad_line_of (event.Call h f) = false
 bad_line_of event.BadLine = true
 
 -- the later of two, where it is something
-abbrev pub or_else : Handed → Handed → Handed
-or_else handed.Nothing h = h
-or_else (handed.Octets n) h = handed.Octets n
+abbrev pub or_else : Option ℕ → Option ℕ → Option ℕ
+or_else None h = h
+or_else (Some n) h = Some n
 
 -- what the section handed over: what its last call that handed something over did
-unfoldable pub handed_over : List Event → Handed
-handed_over [] = handed.Nothing
+unfoldable pub handed_over : List Event → Option ℕ
+handed_over [] = None
 handed_over (e ∷ es) = or_else (handed_over es) (handed_by e)
 
 -- whether a call left the receiver Failed
@@ -75,7 +72,7 @@ every_rebuilt ss = is_some ss && all_rebuilt ss
 
 -- before anything has happened
 abbrev pub nothing_yet : Summary
-nothing_yet = record { handed = handed.Nothing; failed = false; bad_line = false }
+nothing_yet = record { handed = None; failed = false; bad_line = false }
 
 -- after one event more
 abbrev pub stepped : Summary → Event → Summary
@@ -85,15 +82,17 @@ stepped s event.BadLine = record { handed = s.handed; failed = s.failed; bad_lin
 abbrev pub rebuilt_by : Summary → Bool
 rebuilt_by s = hands s.handed && (not s.failed && not s.bad_line)
 
--- before any section has ended, and after one more
-abbrev pub no_results : Results
-no_results = record { any = false; all = true }
+-- of the sections that have ended whether all were rebuilt: before any has ended, and after one more
+abbrev pub no_results : Option Bool
+no_results = None
 
-abbrev pub with_result : Results → Bool → Results
-with_result r b = record { any = true; all = r.all && b }
+abbrev pub with_result : Option Bool → Bool → Option Bool
+with_result None b = Some b
+with_result (Some all) b = Some (all && b)
 
-abbrev pub every_by : Results → Bool
-every_by r = r.any && r.all
+abbrev pub every_by : Option Bool → Bool
+every_by None = false
+every_by (Some all) = all
 
 -- what has been told, at the start, after one event more, and after the section's end
 abbrev pub start_of : Told
@@ -122,14 +121,14 @@ told_all t (s ∷ ss) = told_all (ended (noted_all t s)) ss
 
 -- a call of the section handed n octets over, and none after it handed anything over
 pub data HandsOver : List Event → ℕ → Type 0 where
-  here : {n : ℕ} {f : Bool} {es : List Event} → handed_over es ≡ handed.Nothing → HandsOver (event.Call (handed.Octets n) f ∷ es) n
+  here : {n : ℕ} {f : Bool} {es : List Event} → handed_over es ≡ None → HandsOver (event.Call (Some n) f ∷ es) n
   there : {n : ℕ} {e : Event} {es : List Event} → HandsOver es n → HandsOver (e ∷ es) n
 
 -- s is what a program that steps through the section keeps: it has a record exactly when a call of the section handed it over, with that
 -- call's octets, and it is rebuilt exactly when, besides, no later call left the receiver Failed and no line was refused for its form
 pub record Tells (es : List Event) (s : Summary) : Type 0 where
-  pub printed : (n : ℕ) → s.handed ≡ handed.Octets n → HandsOver es n
-  pub prints : (n : ℕ) → HandsOver es n → s.handed ≡ handed.Octets n
+  pub printed : (n : ℕ) → s.handed ≡ Some n → HandsOver es n
+  pub prints : (n : ℕ) → HandsOver es n → s.handed ≡ Some n
   pub clean : rebuilt_by s ≡ true → (hands (handed_over es) ≡ true) × (fails_later es ≡ false) × (has_bad_line es ≡ false)
   pub cleans : hands (handed_over es) ≡ true → fails_later es ≡ false → has_bad_line es ≡ false → rebuilt_by s ≡ true
 
@@ -147,8 +146,8 @@ missing_in answer = number_at 2 answer 42
 abbrev pub first_missing_in : List ℕ → ℕ
 first_missing_in answer = number_at 2 answer 44
 
-abbrev pub handed_in : List ℕ → Handed
-handed_in answer = cond (eqb (get_or answer 46 0) 0) handed.Nothing (handed.Octets (number_at 8 answer 47))
+abbrev pub handed_in : List ℕ → Option ℕ
+handed_in answer = cond (eqb (get_or answer 46 0) 0) None (Some (number_at 8 answer 47))
 
 abbrev pub call_event : List ℕ → List ℕ → Event
 call_event answer receiver = event.Call (handed_in answer) (eqb (get_or receiver 24 0) 3)

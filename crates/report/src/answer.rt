@@ -1,79 +1,34 @@
 // What a call gave and answered, and how a receiver stands.
-use crate::layout::{number_at, octet, pair_at};
+use crate::layout;
+use crate::layout::{behind_flag, number_at, octet, pair_at};
 use crate::marks::{say_marks, say_missing, say_open};
-use crate::outcome::{first_missing_in, missing_in};
-use crate::reason::{is_held, reason_of};
+use crate::names::{KINDS, STATES, STATUSES, WINDOWS, nth};
+use crate::outcome::{first_missing_in, handed_in, missing_in};
+use crate::reason::{Failure, Reason, is_held, reason_of};
+use crate::refusal::Refusal;
 use crate::row::say_octets;
-use crate::{layout, say};
+use crate::say::Counted;
+use capture::line::Header;
 use capture::text::from;
 use std::io;
 
-const STATUS_COUNT: u8 = 14;
-
-const STATE_COUNT: u8 = 6;
-
-const WINDOW_COUNT: u8 = 6;
-
-const KIND_COUNT: u8 = 3;
-
-// A form of several that follow each other; none past the last.
-fn nth(first: usize, n: u8, count: u8) -> usize {
-    if n < count {
-        return say::past(first, n as usize);
+// A name where there is one, behind a space.
+fn say_name(rt: &impl Print, name: Option<&str>) -> io::Result<()> {
+    match name {
+        Some(name) => print!(rt; " {name}"),
+        None => Ok(()),
     }
-    say::NOTHING
-}
-
-// The form that names a refusal: those of a range of numbers follow each other. A number that none has is printed alone.
-fn refusal_name(n: u32) -> usize {
-    match n {
-        1..=8 => say::REFUSALS + (n - 1) as usize,
-        20..=26 => say::REFUSALS + 8 + (n - 20) as usize,
-        28 => say::REFUSALS + 15,
-        30..=38 => say::REFUSALS + 16 + (n - 30) as usize,
-        40..=49 => say::REFUSALS + 25 + (n - 40) as usize,
-        60..=64 => say::REFUSALS + 35 + (n - 60) as usize,
-        256..=258 => say::REFUSALS + 40 + (n - 256) as usize,
-        _ => say::NOTHING,
-    }
-}
-
-fn field_name(m: u32) -> usize {
-    match m {
-        1..=7 => say::FIELDS + (m - 1) as usize,
-        _ => say::NOTHING,
-    }
-}
-
-fn say_name(rt: &impl Print, name: usize) -> io::Result<()> {
-    if name != say::NOTHING {
-        say::say(rt, say::SPACE, 0, 0)?;
-        say::say(rt, name, 0, 0)?;
-    }
-    Ok(())
-}
-
-// A refusal by the number that a call gave: 256 * n + m is document 01's n/m, of which m is 0 where there is none.
-pub fn say_refused(rt: &impl Print, code: u32) -> io::Result<()> {
-    let n = code / 256;
-    let m = code % 256;
-    if m == 0 {
-        say::say(rt, say::REFUSED, n as u64, 0)?;
-        return say_name(rt, refusal_name(n));
-    }
-    say::say(rt, say::REFUSED + 1, n as u64, m as u64)?;
-    say_name(rt, field_name(m))
 }
 
 // A status by its number and its name.
 fn say_status(rt: &impl Print, n: u8) -> io::Result<()> {
-    say::say(rt, say::STATUS, n as u64, 0)?;
-    say::say(rt, nth(say::STATUSES, n, STATUS_COUNT), 0, 0)
+    print!(rt; " {n}")?;
+    say_name(rt, nth(&STATUSES, n))
 }
 
-fn say_flag(rt: &impl Print, flag: u8, n: usize) -> io::Result<()> {
+fn say_flag(rt: &impl Print, flag: u8, name: &str) -> io::Result<()> {
     if flag != 0 {
-        say::say(rt, n, 0, 0)?;
+        print!(rt; " {name}")?;
     }
     Ok(())
 }
@@ -83,23 +38,23 @@ fn say_support(rt: &impl Print, list: &[u8]) -> io::Result<()> {
     if octet(list, 0) == 0 {
         return Ok(());
     }
-    say::say(rt, say::SUPPORTED, 0, 0)?;
-    say_flag(rt, octet(list, 1), say::SUPPORTED + 1)?;
-    say_flag(rt, octet(list, 2), say::SUPPORTED + 2)?;
-    say_flag(rt, octet(list, 3), say::SUPPORTED + 3)?;
-    say_flag(rt, octet(list, 4), say::SUPPORTED + 4)
+    print!(rt; ", supported")?;
+    say_flag(rt, octet(list, 1), "compression")?;
+    say_flag(rt, octet(list, 2), "encryption")?;
+    say_flag(rt, octet(list, 3), "window")?;
+    say_flag(rt, octet(list, 4), "CRC")
 }
 
 // A map: how many entries it has, how many are missing and the first of them, by the answer's own figures; then which, if any.
 fn say_map(rt: &impl Print, answer: &[u8]) -> io::Result<()> {
     let n = pair_at(answer, layout::ENTRIES);
     let missing = missing_in(answer);
-    say::say(rt, say::MAP, n, 0)?;
-    say::say(rt, say::MAP + 1, missing, first_missing_in(answer))?;
+    let first = first_missing_in(answer);
+    print!(rt; ", map of {n}, missing {missing}, first {first}")?;
     if missing == 0 {
         return Ok(());
     }
-    say::say(rt, say::MAP + 2, 0, 0)?;
+    print!(rt; ":")?;
     say_missing(rt, from(answer, layout::MARKS), n as usize)
 }
 
@@ -108,12 +63,8 @@ fn say_reply(rt: &impl Print, answer: &[u8]) -> io::Result<()> {
     if octet(answer, 0) == 0 {
         return Ok(());
     }
-    say::say(
-        rt,
-        say::RESPONSE,
-        octet(answer, layout::TRANSACTION) as u64,
-        0,
-    )?;
+    let transaction = octet(answer, layout::TRANSACTION);
+    print!(rt; "; response: transaction {transaction}, status")?;
     say_status(rt, octet(answer, layout::STATUS))?;
     say_map(rt, answer)?;
     say_support(rt, from(answer, layout::SUPPORT))
@@ -121,73 +72,50 @@ fn say_reply(rt: &impl Print, answer: &[u8]) -> io::Result<()> {
 
 // A message that a call hands over.
 fn say_message(rt: &impl Print, answer: &[u8]) -> io::Result<()> {
-    if octet(answer, layout::MESSAGE) != 0 {
-        say::say(
-            rt,
-            say::HANDED_OVER,
-            number_at(answer, layout::MESSAGE + 1),
-            0,
-        )?;
+    match handed_in(answer) {
+        Some(n) => print!(rt; "; hands over a record of {}", Counted(n, "octet")),
+        None => Ok(()),
     }
-    Ok(())
 }
 
-// A receiver's state.
+// A receiver's state, behind a space.
 fn say_state(rt: &impl Print, receiver: &[u8]) -> io::Result<()> {
-    say::say(
-        rt,
-        nth(say::STATES, octet(receiver, layout::STATE), STATE_COUNT),
-        0,
-        0,
-    )
+    let name = nth(&STATES, octet(receiver, layout::STATE)).unwrap_or("");
+    print!(rt; " {name}")
 }
 
 // The state, where it is another than before.
 fn say_change(rt: &impl Print, before: u8, receiver: &[u8]) -> io::Result<()> {
-    if octet(receiver, layout::STATE) != before {
-        say::say(rt, say::NOW, 0, 0)?;
-        say_state(rt, receiver)?;
+    if octet(receiver, layout::STATE) == before {
+        return Ok(());
     }
-    Ok(())
+    print!(rt; "; now")?;
+    say_state(rt, receiver)
 }
 
 // What a call gave, its answer, and the state where it has changed.
 pub fn say_answer(
     rt: &impl Print,
-    code: u32,
+    taken: Result<(), Refusal>,
     answer: &[u8],
     before: u8,
     receiver: &[u8],
 ) -> io::Result<()> {
-    if code != 0 {
-        say_refused(rt, code)?;
-    } else {
-        say::say(rt, say::TAKEN, 0, 0)?;
+    match taken {
+        Ok(()) => print!(rt; ": taken")?,
+        Err(refusal) => print!(rt; ": refused {refusal}")?,
     }
     say_reply(rt, answer)?;
     say_message(rt, answer)?;
     say_change(rt, before, receiver)
 }
 
-// A peer by kind, width and value, and a transaction, as they stand in RECEIVER.
-pub fn say_names(rt: &impl Print, receiver: &[u8]) -> io::Result<()> {
-    say::say(
-        rt,
-        say::PEER,
-        octet(receiver, layout::PEER_KIND) as u64,
-        octet(receiver, layout::PEER_WIDTH) as u64,
-    )?;
-    say::say(
-        rt,
-        say::PEER + 1,
-        number_at(receiver, layout::PEER_VALUE),
-        0,
-    )?;
-    say::say(
-        rt,
-        say::TRANSACTION,
-        octet(receiver, layout::RECEIVER_TRANSACTION) as u64,
-        0,
+// A receiver's peer by kind, width and value, and its transaction.
+pub fn say_names(rt: &impl Print, header: Header) -> io::Result<()> {
+    let peer = header.peer;
+    print!(rt;
+        " peer {} {} {}, transaction {}",
+        peer.kind, peer.width, peer.value, header.transaction_id
     )
 }
 
@@ -195,102 +123,83 @@ pub fn say_names(rt: &impl Print, receiver: &[u8]) -> io::Result<()> {
 
 // A Begin's window, which is Prohibited where it brings no services.
 fn say_window(rt: &impl Print, decoded: &[u8]) -> io::Result<()> {
-    if octet(decoded, layout::KIND) == layout::BEGIN {
-        say::say(
-            rt,
-            nth(say::WINDOWS, octet(decoded, layout::WINDOW), WINDOW_COUNT),
-            0,
-            0,
-        )?;
+    if octet(decoded, layout::KIND) != layout::BEGIN {
+        return Ok(());
     }
-    Ok(())
+    match nth(&WINDOWS, octet(decoded, layout::WINDOW)) {
+        Some(name) => print!(rt; ", window {name}"),
+        None => Ok(()),
+    }
 }
 
 // A segment that was decoded: kind, sequence, transaction, data length, a Begin's window, the length that it states.
 pub fn say_segment(rt: &impl Print, decoded: &[u8]) -> io::Result<()> {
-    say::say(
-        rt,
-        nth(say::KINDS, octet(decoded, layout::KIND), KIND_COUNT),
-        octet(decoded, layout::SEQUENCE) as u64,
-        0,
-    )?;
-    say::say(
-        rt,
-        say::TRANSACTION,
-        octet(decoded, layout::SEGMENT_TRANSACTION) as u64,
-        0,
-    )?;
-    say::say(rt, say::DATA, number_at(decoded, layout::DATA_LENGTH), 0)?;
-    say_window(rt, decoded)?;
-    if octet(decoded, layout::SEGMENT_STATED) != 0 {
-        say::say(
-            rt,
-            say::STATES_LENGTH,
-            pair_at(decoded, layout::SEGMENT_STATED + 1),
-            0,
-        )?;
+    if let Some(kind) = nth(&KINDS, octet(decoded, layout::KIND)) {
+        let sequence = octet(decoded, layout::SEQUENCE);
+        print!(rt; "{kind} {sequence}")?;
     }
-    Ok(())
+    let transaction = octet(decoded, layout::SEGMENT_TRANSACTION);
+    let data = Counted(number_at(decoded, layout::DATA_LENGTH), "octet");
+    print!(rt; ", transaction {transaction}, {data}")?;
+    say_window(rt, decoded)?;
+    match behind_flag(decoded, layout::SEGMENT_STATED).map(|at| pair_at(decoded, at)) {
+        Some(n) => print!(rt; ", states {n}"),
+        None => Ok(()),
+    }
 }
 
 // The octets that a receiver has, and of how many, where a length was stated.
 fn say_so_far(rt: &impl Print, receiver: &[u8]) -> io::Result<()> {
     let n = number_at(receiver, layout::STORED);
-    if octet(receiver, layout::STATED) == 0 {
-        return say::say(rt, say::SO_FAR, n, 0);
+    match behind_flag(receiver, layout::STATED).map(|at| pair_at(receiver, at)) {
+        Some(stated) => print!(rt; ", {n} of {stated} octets"),
+        None => print!(rt; ", {} so far", Counted(n, "octet")),
     }
-    say::say(
-        rt,
-        say::SO_FAR + 1,
-        n,
-        pair_at(receiver, layout::STATED + 1),
-    )
 }
 
 // The status of a receiver that has failed, and the reason.
-fn say_failure(rt: &impl Print, receiver: &[u8], form: usize, a: u64, b: u64) -> io::Result<()> {
+fn say_failure(rt: &impl Print, receiver: &[u8], reason: Option<Reason>) -> io::Result<()> {
     say_status(rt, octet(receiver, layout::STATE + 1))?;
-    say::say(rt, form, a, b)
-}
-
-fn say_failing(rt: &impl Print, before: &[u8], decoded: &[u8], receiver: &[u8]) -> io::Result<()> {
-    let r = reason_of(before, decoded, octet(receiver, layout::STATE + 1));
-    say::say(rt, say::FAILS, 0, 0)?;
-    say_failure(rt, receiver, r.form, r.a, r.b)
+    match reason {
+        Some(reason) => print!(rt; " ({reason})"),
+        None => Ok(()),
+    }
 }
 
 // A segment that was received: whether it is new, and whether it is taken or fails the reception.
 fn say_received(rt: &impl Print, before: &[u8], decoded: &[u8], receiver: &[u8]) -> io::Result<()> {
     if is_held(before, octet(decoded, layout::SEQUENCE)) {
-        say::say(rt, say::NEW + 1, 0, 0)?;
+        print!(rt; ", repeat")?;
     } else {
-        say::say(rt, say::NEW, 0, 0)?;
+        print!(rt; ", new")?;
     }
     if octet(receiver, layout::STATE) == layout::FAILED {
-        return say_failing(rt, before, decoded, receiver);
+        print!(rt; ": fails the reception, status")?;
+        let status = octet(receiver, layout::STATE + 1);
+        return say_failure(rt, receiver, reason_of(before, decoded, status));
     }
-    say::say(rt, say::TAKEN, 0, 0)?;
+    print!(rt; ": taken")?;
     say_so_far(rt, receiver)
 }
 
 // A segment that was refused, with its octets.
 pub fn say_refused_segment(
     rt: &impl Print,
-    code: u32,
+    refusal: Refusal,
     before: u8,
     receiver: &[u8],
     segment: &[u8],
 ) -> io::Result<()> {
-    say_refused(rt, code)?;
+    print!(rt; ": refused {refusal}")?;
     say_change(rt, before, receiver)?;
-    say::say(rt, say::OCTETS, 0, 0)?;
+    print!(rt; "; octets")?;
     say_octets(rt, segment)
 }
 
 // What a receive gave and answered: before is RECEIVER before the call, decoded is DECODED of the segment.
 pub fn say_reception(
     rt: &impl Print,
-    code: u32,
+    taken: Result<(), Refusal>,
     answer: &[u8],
     before: &[u8],
     decoded: &[u8],
@@ -298,8 +207,8 @@ pub fn say_reception(
     segment: &[u8],
 ) -> io::Result<()> {
     let state = octet(before, layout::STATE);
-    if code != 0 {
-        return say_refused_segment(rt, code, state, receiver, segment);
+    if let Err(refusal) = taken {
+        return say_refused_segment(rt, refusal, state, receiver, segment);
     }
     say_received(rt, before, decoded, receiver)?;
     say_reply(rt, answer)?;
@@ -310,35 +219,29 @@ pub fn say_reception(
 // ---- results
 
 fn say_deadline(rt: &impl Print, receiver: &[u8]) -> io::Result<()> {
-    if octet(receiver, layout::DEADLINE) == 0 {
-        return say::say(rt, say::DEADLINES, 0, 0);
+    match behind_flag(receiver, layout::DEADLINE).map(|at| number_at(receiver, at)) {
+        Some(at) => print!(rt; ", deadline {at}"),
+        None => print!(rt; ", deadline none"),
     }
-    say::say(
-        rt,
-        say::DEADLINES + 1,
-        number_at(receiver, layout::DEADLINE + 1),
-        0,
-    )
 }
 
 // What a receiver that held these segments lacks.
 fn say_lack(rt: &impl Print, receiver: &[u8], held: &[u8]) -> io::Result<()> {
-    if octet(receiver, layout::END) == 0 {
-        return say_open(rt, held);
+    match behind_flag(receiver, layout::END).map(|at| octet(receiver, at)) {
+        Some(end) => say_missing(rt, held, usize::from(end) + 1),
+        None => say_open(rt, held),
     }
-    say_missing(rt, held, octet(receiver, layout::END + 1) as usize + 1)
 }
 
-// The reason that was kept, as three numbers: a form and what is filled in; and the line, which follows them.
-fn say_kept(rt: &impl Print, receiver: &[u8], reason: &[u8]) -> io::Result<()> {
-    say_failure(
-        rt,
-        receiver,
-        number_at(reason, 0) as usize,
-        number_at(reason, 8),
-        number_at(reason, 16),
-    )?;
-    say::say(rt, say::AT_LINE, number_at(reason, 24), 0)
+// The failure that was kept.
+fn say_kept(rt: &impl Print, receiver: &[u8], failure: Option<Failure>) -> io::Result<()> {
+    match failure {
+        Some(Failure { reason, line }) => {
+            say_failure(rt, receiver, reason)?;
+            print!(rt; " at line {line}")
+        }
+        None => say_failure(rt, receiver, None),
+    }
 }
 
 // Where a receiver stands that handed nothing over: its state, and why it failed; or its deadline, the segments that it last held, and those
@@ -347,22 +250,26 @@ pub fn say_standing(
     rt: &impl Print,
     receiver: &[u8],
     held: &[u8],
-    reason: &[u8],
+    failure: Option<Failure>,
 ) -> io::Result<()> {
-    say::say(rt, say::STANDING, 0, 0)?;
+    print!(rt; "no record: state")?;
     say_state(rt, receiver)?;
     if octet(receiver, layout::STATE) == layout::FAILED {
-        return say_kept(rt, receiver, reason);
+        return say_kept(rt, receiver, failure);
     }
     say_deadline(rt, receiver)?;
-    say::say(rt, say::LAST_HELD, 0, 0)?;
+    print!(rt; ", last held")?;
     say_marks(rt, held)?;
-    say::say(rt, say::MISSING, 0, 0)?;
+    print!(rt; ", missing")?;
     say_lack(rt, receiver, held)
 }
 
 // The failure of a receiver that had handed a record over.
-pub fn say_failed_after(rt: &impl Print, receiver: &[u8], reason: &[u8]) -> io::Result<()> {
-    say::say(rt, say::BUT_FAILED, 0, 0)?;
-    say_kept(rt, receiver, reason)
+pub fn say_failed_after(
+    rt: &impl Print,
+    receiver: &[u8],
+    failure: Option<Failure>,
+) -> io::Result<()> {
+    print!(rt; ", and the reception failed after it, status")?;
+    say_kept(rt, receiver, failure)
 }

@@ -3,7 +3,7 @@ ghost use Rattle.std.specs.Prelude.{◌≡◌, get_or};
 ghost use Rattle.report.specs.Outcome.{number_at};
 
 use capture::text::from;
-use image::numbers::{number16, number64};
+use image::numbers;
 
 // DECODED: transaction, sequence, kind, stated length with its flag, services with theirs, of which the window; data length, unparsed octets.
 pub const SEGMENT_TRANSACTION: usize = 0;
@@ -24,7 +24,7 @@ pub const UNPARSED: usize = 23;
 
 pub const DECODED_OCTETS: usize = 31;
 
-// The kinds of segments.
+// The kinds of segments, by their numbers in DECODED.
 pub const BEGIN: u8 = 0;
 
 pub const CONTINUE: u8 = 1;
@@ -89,7 +89,7 @@ pub const LENGTHS: usize = 91;
 
 pub const RECEIVER_OCTETS: usize = 3931;
 
-// The state after a hand-over, and those that take no segments, of which FAILED has a status.
+// The state after a hand-over, and those that take no segments, of which FAILED has a status: by their numbers in RECEIVER.
 pub const COMPLETE: u8 = 2;
 
 pub const FAILED: u8 = 3;
@@ -102,10 +102,10 @@ pub const CANCELED: u8 = 5;
 pub fn octet(s: &[u8], at: usize) -> u8
     ensures { result ≡ get_or s.now at 0 }
 {
-    if at < s.len() { s[at] } else { 0 }
+    s.get(at).copied().unwrap_or(0)
 }
 
-// The number of 16 bits at a place; 0 past the end.
+// The number of 16 bits at a place; 0 past the end. One of 64 bits is read by a function of its own, as image has them.
 pub fn pair_at(s: &[u8], at: usize) -> u64
     ensures { result ≡ number_at 2 s.now at }
 {
@@ -113,7 +113,8 @@ pub fn pair_at(s: &[u8], at: usize) -> u64
     if t.len() < 2 {
         return 0;
     }
-    number16(t, 0) as u64
+    let n: u16 = numbers::read(t, 0);
+    u64::from(n)
 }
 
 // The number of 64 bits at a place; 0 past the end.
@@ -124,5 +125,10 @@ pub fn number_at(s: &[u8], at: usize) -> u64
     if t.len() < 8 {
         return 0;
     }
-    number64(t, 0)
+    numbers::read(t, 0)
+}
+
+// The place behind a flag, where the flag is not 0.
+pub(crate) fn behind_flag(s: &[u8], flag: usize) -> Option<usize> {
+    (octet(s, flag) != 0).then_some(flag.saturating_add(1))
 }

@@ -1,12 +1,13 @@
-// What the bench program prints, from numbers and octets (docs/EXPORTS.md), and the rule by which it says that a record was rebuilt. No
-// contract can say what is printed; every call is total, and gives an error only where a write fails.
+// What the bench program prints, from numbers and octets (docs/EXPORTS.md), and the rule by which it says that a record was rebuilt. A
+// Display says what it writes, and no contract can say what is printed; every call is total, and gives an error only where a write fails.
 #![tactic(auto)]
 
 pub mod answer;
-pub mod fault;
 pub mod layout;
 pub mod marks;
+mod names;
 pub mod outcome;
 pub mod reason;
+pub mod refusal;
 pub mod row;
 pub mod say;

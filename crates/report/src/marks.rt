@@ -1,8 +1,7 @@
 // 256 marks in 32 octets, four words with the highest octet first: mark 0 is the lowest bit of the first word.
-ghost use Rattle.std.specs.Prelude.{◌≤◌};
+ghost use Rattle.std.specs.Prelude.{◌<◌, ◌≤◌, IfSome};
 
 use crate::layout::octet;
-use crate::say;
 use std::io;
 
 pub const MARKS_OCTETS: usize = 32;
@@ -17,36 +16,32 @@ pub fn is_marked(marks: &[u8], i: usize) -> bool {
 fn find(marks: &[u8], n: usize, a: usize, set: bool) -> usize
     ensures { a ≤ result }
 {
-    let mut i = a;
-    while i < n && is_marked(marks, i) != set {
-        i += 1;
-    }
-    i
+    (a..n)
+        .find(|i| is_marked(marks, *i) == set)
+        .unwrap_or(a.max(n))
 }
 
-// One more than the highest mark; 0 where there is none.
-pub fn top(marks: &[u8]) -> usize
-    ensures { result ≤ 256 }
+// The highest mark.
+pub fn top(marks: &[u8]) -> Option<usize>
+    ensures { IfSome result (λ i. i < 256) }
 {
-    let mut n = SEQUENCES;
-    while 0 < n && !is_marked(marks, n - 1) {
-        n -= 1;
-    }
-    n
+    (0..SEQUENCES).rev().find(|i| is_marked(marks, *i))
 }
 
 fn say_run(rt: &impl Print, a: usize, b: usize) -> io::Result<()> {
     if a == b {
-        return say::say(rt, say::RUNS + 1, a as u64, 0);
+        print!(rt; " {a}")
+    } else {
+        print!(rt; " {a}-{b}")
     }
-    say::say(rt, say::RUNS, a as u64, b as u64)
 }
 
-// The numbers below n whose mark is set, or is not, as numbers and ranges of numbers.
+// The numbers below n whose mark is set, or is not, as numbers and ranges of numbers. A run starts past the end of the one before, so no range
+// counts the turns.
 fn say_runs(rt: &impl Print, marks: &[u8], n: usize, set: bool) -> io::Result<()> {
     let mut a = find(marks, n, 0, set);
     if n <= a {
-        say::say(rt, say::NONE, 0, 0)?;
+        print!(rt; " none")?;
     }
     while a < n {
         let e = find(marks, n, a + 1, !set);
@@ -67,10 +62,11 @@ pub fn say_missing(rt: &impl Print, marks: &[u8], n: usize) -> io::Result<()> {
 
 // What is missing up to the highest mark, and what may follow it.
 pub fn say_open(rt: &impl Print, marks: &[u8]) -> io::Result<()> {
-    let n = top(marks);
-    if n == 0 {
-        return say::say(rt, say::ALL, 0, 0);
+    match top(marks) {
+        None => print!(rt; " all"),
+        Some(last) => {
+            say_missing(rt, marks, last)?;
+            print!(rt; ", and what follows {last} (no End)")
+        }
     }
-    say_missing(rt, marks, n - 1)?;
-    say::say(rt, say::FOLLOWING, (n - 1) as u64, 0)
 }

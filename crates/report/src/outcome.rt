@@ -1,98 +1,54 @@
 // What is said of a section of a capture: one rule, on what its calls answered and on whether its lines could be read.
-ghost use Rattle.std.specs.Prelude.{◌≡◌, ◌&&◌, ◌||◌};
-ghost use Rattle.report.specs.Outcome.{hands, or_else, stepped, rebuilt_by, with_result, every_by, start_of, noted, ended, handed_in, call_event, missing_in, first_missing_in, past_deadline};
+ghost use Rattle.std.specs.Prelude.{◌≡◌};
+ghost use Rattle.report.specs.Outcome.{stepped, rebuilt_by, with_result, every_by, start_of, noted, ended, handed_in, call_event, missing_in, first_missing_in, past_deadline};
 
 use crate::layout;
 use crate::layout::{number_at, octet, pair_at};
 
-// What a call handed over: nothing, or a record of so many octets.
-#[derive(Clone, Copy)]
-pub enum Handed {
-    Nothing,
-    Octets(u64),
-}
-
-// What happened in a section: a call, with what it handed over and whether the receiver is Failed after it; or a line that was refused for
+// What happened in a section: a call, with the octets of the record that it handed over, if it did, and whether the receiver is Failed after it; or a line that was refused for
 // its form.
 #[derive(Clone, Copy)]
 pub enum Event {
-    Call(Handed, bool),
+    Call(Option<u64>, bool),
     BadLine,
 }
 
 // A section so far: what was handed over, whether a later call left the receiver Failed, and whether a line was refused for its form.
-#[derive(Clone, Copy)]
+#[derive(Clone, Copy, Debug, PartialEq, Eq)]
 pub struct Summary {
-    pub handed: Handed,
+    pub handed: Option<u64>,
     pub failed: bool,
     pub bad_line: bool,
 }
 
-// The sections that have ended: whether there is one, and whether all were rebuilt.
-#[derive(Clone, Copy)]
-pub struct Results {
-    pub any: bool,
-    pub all: bool,
-}
-
+// What has been told: of the section so far; and of those that have ended, where there is one, whether all were rebuilt.
 #[derive(Clone, Copy)]
 pub struct Told {
     pub section: Summary,
-    pub results: Results,
+    pub results: Option<bool>,
 }
 
-fn both(a: bool, b: bool) -> bool
-    ensures { result ≡ (a && b) }
-{
-    if a {
-        return b;
-    }
-    false
-}
-
-fn either(a: bool, b: bool) -> bool
-    ensures { result ≡ (a || b) }
-{
-    if a {
-        return true;
-    }
-    b
-}
-
-pub fn has_record(h: Handed) -> bool
-    ensures { result ≡ hands h }
-{
-    match h {
-        Handed::Nothing => false,
-        Handed::Octets(_) => true,
-    }
-}
-
-// The later of two, where it is something.
-fn later(h: Handed, before: Handed) -> Handed
-    ensures { result ≡ or_else h before }
-{
-    match h {
-        Handed::Nothing => before,
-        Handed::Octets(n) => Handed::Octets(n),
-    }
+impl Summary {
+    const NOTHING_YET: Summary = Summary {
+        handed: None,
+        failed: false,
+        bad_line: false,
+    };
 }
 
 // A section after one event more.
 pub fn seen(s: Summary, e: Event) -> Summary
     ensures { result ≡ stepped s e }
 {
-    let handed = s.handed;
     match e {
-        Event::Call(h, f) => Summary {
-            handed: later(h, handed),
-            failed: either(s.failed, both(has_record(handed), f)),
+        Event::Call(handed, failed) => Summary {
+            handed: handed.or(s.handed),
+            failed: s.failed || (s.handed.is_some() && failed),
             bad_line: s.bad_line,
         },
         Event::BadLine => Summary {
-            handed,
-            failed: s.failed,
             bad_line: true,
+            ..s
         },
     }
 }
@@ -101,23 +57,15 @@ pub fn seen(s: Summary, e: Event) -> Summary
 pub fn is_rebuilt(s: Summary) -> bool
     ensures { result ≡ rebuilt_by s }
 {
-    let handed = s.handed;
-    both(has_record(handed), both(!s.failed, !s.bad_line))
+    s.handed.is_some() && !s.failed && !s.bad_line
 }
 
 pub fn start() -> Told
     ensures { result ≡ start_of }
 {
     Told {
-        section: Summary {
-            handed: Handed::Nothing,
-            failed: false,
-            bad_line: false,
-        },
-        results: Results {
-            any: false,
-            all: true,
-        },
+        section: Summary::NOTHING_YET,
+        results: None,
     }
 }
 
@@ -125,45 +73,37 @@ pub fn start() -> Told
 pub fn note(t: Told, e: Event) -> Told
     ensures { result ≡ noted t e }
 {
-    let results = t.results;
-    let section = seen(t.section, e);
-    Told { section, results }
+    Told {
+        section: seen(t.section, e),
+        ..t
+    }
 }
 
 // With the section ended, and another begun.
 pub fn end_section(t: Told) -> Told
     ensures { result ≡ ended t }
 {
-    let section = t.section;
-    let all = t.results.all;
     Told {
-        section: Summary {
-            handed: Handed::Nothing,
-            failed: false,
-            bad_line: false,
-        },
-        results: Results {
-            any: true,
-            all: both(all, is_rebuilt(section)),
-        },
+        section: Summary::NOTHING_YET,
+        results: Some(t.results.unwrap_or(true) && is_rebuilt(t.section)),
     }
 }
 
 // Whether there was a section, and every one was rebuilt.
-pub fn is_every(r: Results) -> bool
-    ensures { result ≡ every_by r }
+pub fn is_every(results: Option<bool>) -> bool
+    ensures { result ≡ every_by results }
 {
-    both(r.any, r.all)
+    results == Some(true)
 }
 
 // What a call handed over, by its answer.
-fn handed_in(answer: &[u8]) -> Handed
+pub(crate) fn handed_in(answer: &[u8]) -> Option<u64>
     ensures { result ≡ handed_in answer.now }
 {
     if octet(answer, layout::MESSAGE) == 0 {
-        return Handed::Nothing;
+        return None;
     }
-    Handed::Octets(number_at(answer, layout::MESSAGE + 1))
+    Some(number_at(answer, layout::MESSAGE + 1))
 }
 
 // How many entries of a response's map are missing, and the first of them, as the answer has them.
@@ -193,11 +133,7 @@ pub fn call_event(answer: &[u8], receiver: &[u8]) -> Event
 pub fn is_past(reading: u64, receiver: &[u8]) -> bool
     ensures { result ≡ past_deadline reading receiver.now }
 {
-    if octet(receiver, 0) == 0 {
-        return false;
-    }
-    if octet(receiver, layout::DEADLINE) == 0 {
-        return false;
-    }
-    number_at(receiver, layout::DEADLINE + 1) < reading
+    octet(receiver, 0) != 0
+        && octet(receiver, layout::DEADLINE) != 0
+        && number_at(receiver, layout::DEADLINE + 1) < reading
 }

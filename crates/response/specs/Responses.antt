@@ -1,10 +1,8 @@
 -- Statuses, acknowledgment maps and responses: document 01, 'Port order' 3 and 4, and 'Refusals' 6/6, 6/7 and 1; the figures of a map's missing
 -- entries: document 02, 2026-01.
-use Rattle.std.specs.Prelude.{ℕ, ◌≡◌, refl, Bool, true, false, cond, not, ◌&&◌, ◌||◌, List, [], ◌∷◌, eqb, ltb}
-use Rattle.std.proofs.Math.Option.{Option, none, some}
+use Rattle.std.specs.Prelude.{ℕ, ◌≡◌, refl, Bool, true, false, cond, not, ◌&&◌, ◌||◌, List, [], ◌∷◌, eqb, ltb, Option, Result, is_some, Some, None, Ok, Err}
+use Rattle.tsar.specs.declared.Error.{Error}
 use Rattle.words.specs.Marks.{marked, words_of, sum_below, count_below, lowest_of}
-use Rattle.words.specs.declared.Found.{Found}
-use Rattle.words.specs.declared.Found.TheVariants as found
 use Rattle.tsar.specs.Rows.{Refusal}
 use Rattle.tsar.specs.Numbers.{number}
 use Rattle.response.specs.declared.Status.{Status}
@@ -12,13 +10,7 @@ use Rattle.response.specs.declared.Status.TheVariants as status
 use Rattle.response.specs.declared.AcknowledgmentMap.{AcknowledgmentMap}
 use Rattle.response.specs.declared.Missing.{Missing}
 use Rattle.response.specs.declared.BuiltMap.{BuiltMap}
-use Rattle.response.specs.declared.Acknowledged.{Acknowledged}
-use Rattle.response.specs.declared.Acknowledged.TheVariants as entry
-use Rattle.response.specs.declared.SupportList.{SupportList}
-use Rattle.response.specs.declared.SupportList.TheVariants as support
 use Rattle.response.specs.declared.Response.{Response}
-use Rattle.response.specs.declared.MapAnswer.{MapAnswer}
-use Rattle.response.specs.declared.MapAnswer.TheVariants as made
 
 -- the 14 statuses, 0 to 13
 abbrev pub status_number : Status → ℕ
@@ -47,24 +39,24 @@ abbrev pub map_length_refused : ℕ → Bool
 map_length_refused n = eqb n 0 || ltb 256 n
 
 -- entry s of a map
-abbrev pub entry_at : AcknowledgmentMap → ℕ → Acknowledged
-entry_at m s = cond (ltb s m.bit_count) (cond (marked m.received s) entry.Received entry.Missing) entry.Unreported
+abbrev pub entry_at : AcknowledgmentMap → ℕ → Option Bool
+entry_at m s = cond (ltb s m.bit_count) (cond (marked m.received s) (Some true) (Some false)) None
 
 -- ---- missing entries as numbers: how many entries of the map are missing, and the first of them, 256 where there is none
 
-abbrev pub is_missing : Acknowledged → Bool
-is_missing entry.Unreported = false
-is_missing entry.Missing = true
-is_missing entry.Received = false
+abbrev pub is_missing : Option Bool → Bool
+is_missing None = false
+is_missing (Some false) = true
+is_missing (Some true) = false
 
-abbrev pub is_received : Acknowledged → Bool
-is_received entry.Unreported = false
-is_received entry.Missing = false
-is_received entry.Received = true
+abbrev pub is_received : Option Bool → Bool
+is_received None = false
+is_received (Some false) = false
+is_received (Some true) = true
 
-abbrev pub first_or256 : Found → ℕ
-first_or256 found.Nothing = 256
-first_or256 (found.At s) = s
+abbrev pub first_or256 : Option ℕ → ℕ
+first_or256 None = 256
+first_or256 (Some s) = s
 
 unfoldable pub figures_of : AcknowledgmentMap → Missing
 figures_of m =
@@ -92,25 +84,21 @@ unfolding figures_of count_below lowest_of marked words_of sum_below
 example_none = refl
 
 -- what try_new's answer says, by number
-abbrev pub map_by : MapAnswer → Option Refusal × Option BuiltMap
-map_by (made.Map m) = (none, some m)
-map_by (made.Refused e) = (some (number e), none)
+abbrev pub map_by : Result BuiltMap Error → Option Refusal × Option BuiltMap
+map_by (Ok m) = (None, Some m)
+map_by (Err e) = (Some (number e), None)
 
 -- 6/6, or the map
 abbrev pub new_map : (ℕ → Bool) → ℕ → Option Refusal × Option BuiltMap
-new_map f n = cond (map_length_refused n) (some (6, 6), none) (none, some (built_of f n))
+new_map f n = cond (map_length_refused n) (Some (6, 6), None) (None, Some (built_of f n))
 
 -- ---- a response's codec check: 6/6 first, then 1, 6/1, 1 for a support list below version 5, 6/7 for one with another status
-
-abbrev pub has_support : SupportList → Bool
-has_support support.Absent = false
-has_support (support.Listed s) = true
 
 abbrev pub response_rows : ℕ → Response → List (Bool × Refusal)
 response_rows version r =
     (map_length_refused r.acknowledgments.bit_count, (6, 6))
     ∷ (ltb version 1, (1, 0))
     ∷ (ltb 7 r.transaction_id, (6, 1))
-    ∷ (has_support r.optional_services_support && ltb version 5, (1, 0))
-    ∷ (has_support r.optional_services_support && not (eqb (status_number r.status) 13), (6, 7))
+    ∷ (is_some r.optional_services_support && ltb version 5, (1, 0))
+    ∷ (is_some r.optional_services_support && not (eqb (status_number r.status) 13), (6, 7))
     ∷ []

@@ -1,14 +1,14 @@
 // Responses as records: l3/tsar/response.rs of the source, without its wire codec.
 #![tactic(auto)]
 
-ghost use Rattle.std.specs.Prelude.{◌≡◌, ◌&&◌, suc, ◌≤◌};
+ghost use Rattle.std.specs.Prelude.{◌≡◌, suc, ◌≤◌};
 ghost use Rattle.words.specs.Marks.{marked};
 ghost use Rattle.tsar.specs.Rows.{refusal};
 ghost use Rattle.tsar.specs.Numbers.{validated_by};
-ghost use Rattle.response.specs.Responses.{status_number, map_length_refused, figures_of, first_or256, built_of, map_by, new_map, entry_at, has_support, response_rows};
+ghost use Rattle.response.specs.Responses.{status_number, map_length_refused, figures_of, built_of, map_by, new_map, entry_at, response_rows};
 
-use tsar::{Error, ErrorField, Validated};
-use words::{Found, Words};
+use tsar::{Error, ErrorField};
+use words::Words;
 
 const MAX_MAP_BITS: u16 = 256;
 
@@ -22,10 +22,7 @@ const PV5: u8 = 5;
 
 const TRANSACTION_MASK: u8 = 7;
 
-// The number of MultipleServicesUnsupported, the one status that a support list goes with.
-const SUPPORT_STATUS: u8 = 13;
-
-#[derive(Clone, Copy)]
+#[derive(Clone, Copy, Debug, PartialEq, Eq)]
 pub enum Status {
     Continuing,
     InterSegmentTimeout,
@@ -51,7 +48,7 @@ pub struct AcknowledgmentMap {
 }
 
 // How many entries of a map are missing, and the first of them: 256 where there is none.
-#[derive(Clone, Copy)]
+#[derive(Clone, Copy, Debug, PartialEq, Eq)]
 pub struct Missing {
     pub count: u16,
     pub first: u16,
@@ -64,15 +61,7 @@ pub struct BuiltMap {
     pub missing: Missing,
 }
 
-// What a map says of a sequence number: the source's Option<bool>.
-#[derive(Clone, Copy)]
-pub enum Acknowledged {
-    Unreported,
-    Missing,
-    Received,
-}
-
-#[derive(Clone, Copy)]
+#[derive(Clone, Copy, Debug, PartialEq, Eq)]
 pub struct OptionalServicesSupport {
     pub compression: bool,
     pub encryption: bool,
@@ -80,70 +69,42 @@ pub struct OptionalServicesSupport {
     pub crc: bool,
 }
 
-// The support list of a response: the source's Option<OptionalServicesSupport>.
-#[derive(Clone, Copy)]
-pub enum SupportList {
-    Absent,
-    Listed(OptionalServicesSupport),
-}
-
 #[derive(Clone, Copy)]
 pub struct Response {
     pub transaction_id: u8,
     pub status: Status,
     pub acknowledgments: AcknowledgmentMap,
-    pub optional_services_support: SupportList,
+    pub optional_services_support: Option<OptionalServicesSupport>,
 }
 
-// What AcknowledgmentMap::try_new gives.
-#[derive(Clone, Copy)]
-pub enum MapAnswer {
-    Map(BuiltMap),
-    Refused(Error),
+impl From<Status> for u8 {
+    ghost from_gives = { λ s n. n ≡ status_number s };
+
+    fn from(status: Status) -> u8 {
+        match status {
+            Status::Continuing => 0,
+            Status::InterSegmentTimeout => 1,
+            Status::Aborted => 2,
+            Status::CrcSelectionUnsupported => 3,
+            Status::CompressionUnsupported => 4,
+            Status::EncryptionUnsupported => 5,
+            Status::AcknowledgmentWindowUnsupported => 6,
+            Status::ProtocolUnsupported => 7,
+            Status::MessageLengthError => 8,
+            Status::MessageTooLong => 9,
+            Status::Received => 10,
+            Status::DuplicateSizeMismatch => 11,
+            Status::CrcError => 12,
+            Status::MultipleServicesUnsupported => 13,
+        }
+    }
 }
 
 // The number of a status: 0 to 13.
 pub fn status_number(status: Status) -> u8
     ensures { result ≡ status_number status }
 {
-    match status {
-        Status::Continuing => 0,
-        Status::InterSegmentTimeout => 1,
-        Status::Aborted => 2,
-        Status::CrcSelectionUnsupported => 3,
-        Status::CompressionUnsupported => 4,
-        Status::EncryptionUnsupported => 5,
-        Status::AcknowledgmentWindowUnsupported => 6,
-        Status::ProtocolUnsupported => 7,
-        Status::MessageLengthError => 8,
-        Status::MessageTooLong => 9,
-        Status::Received => 10,
-        Status::DuplicateSizeMismatch => 11,
-        Status::CrcError => 12,
-        Status::MultipleServicesUnsupported => 13,
-    }
-}
-
-// The first of the missing entries: 256 where there is none.
-fn first_of(found: Found) -> u16
-    ensures { result ≡ first_or256 found }
-{
-    match found {
-        Found::Nothing => NONE_MISSING,
-        Found::At(s) => s as u16,
-    }
-}
-
-// The figures of a map: those of its entries that are not marked.
-fn figures(map: AcknowledgmentMap) -> Missing
-    requires { map.bit_count ≤ 256 }
-    ensures { result ≡ figures_of map }
-{
-    let marks = map.received;
-    let missing = Words::below(map.bit_count).minus(marks);
-    let count = missing.ones();
-    let first = first_of(missing.lowest());
-    Missing { count, first }
+    u8::from(status)
 }
 
 // The map of the first bit_count marks, with its figures: every map is built by this, but one that is read from octets.
@@ -151,40 +112,50 @@ fn first_entries(received: Words, bit_count: u16) -> BuiltMap
     requires { bit_count ≤ 256 }
     ensures { result ≡ built_of (marked received) bit_count }
 {
-    let kept = received.first(bit_count);
     let map = AcknowledgmentMap {
-        received: kept,
+        received: received.first(bit_count),
         bit_count,
     };
-    let missing = figures(map);
-    BuiltMap { map, missing }
+    BuiltMap {
+        map,
+        missing: map.figures(),
+    }
 }
 
 // The map of entries 0 to last.
 pub fn map_of(received: Words, last: u8) -> BuiltMap
     ensures { result ≡ built_of (marked received) (suc last) }
 {
-    first_entries(received, last as u16 + 1)
+    first_entries(received, u16::from(last) + 1)
 }
 
 // A map of 0 or above 256 entries is refused (6/6).
 fn map_length_refused(bit_count: u16) -> bool
     ensures { result ≡ map_length_refused bit_count }
 {
-    if bit_count == 0 {
-        return true;
-    }
-    MAX_MAP_BITS < bit_count
+    bit_count == 0 || MAX_MAP_BITS < bit_count
 }
 
 impl AcknowledgmentMap {
-    pub fn try_new(received: Words, bit_count: u16) -> MapAnswer
+    // The figures of a map: those of its entries that are not marked.
+    fn figures(self) -> Missing
+        requires { self.bit_count ≤ 256 }
+        ensures { result ≡ figures_of self }
+    {
+        let missing = Words::below(self.bit_count).minus(self.received);
+        Missing {
+            count: missing.ones(),
+            first: missing.lowest().map_or(NONE_MISSING, u16::from),
+        }
+    }
+
+    pub fn try_new(received: Words, bit_count: u16) -> Result<BuiltMap, Error>
         ensures { map_by result ≡ new_map (marked received) bit_count }
     {
         if map_length_refused(bit_count) {
-            return MapAnswer::Refused(Error::Field(ErrorField::AcknowledgmentMapLength));
+            return Err(Error::Field(ErrorField::AcknowledgmentMapLength));
         }
-        MapAnswer::Map(first_entries(received, bit_count))
+        Ok(first_entries(received, bit_count))
     }
 
     pub fn bit_count(self) -> u16
@@ -194,59 +165,37 @@ impl AcknowledgmentMap {
     }
 
     // What the map says of a sequence number.
-    pub fn received(self, sequence_number: u8) -> Acknowledged
+    pub fn received(self, sequence_number: u8) -> Option<bool>
         ensures { result ≡ entry_at self sequence_number }
     {
-        if self.bit_count <= sequence_number as u16 {
-            return Acknowledged::Unreported;
+        if self.bit_count <= u16::from(sequence_number) {
+            return None;
         }
-        let marks = self.received;
-        if marks.has(sequence_number) {
-            Acknowledged::Received
-        } else {
-            Acknowledged::Missing
-        }
+        Some(self.received.has(sequence_number))
     }
-}
-
-fn has_support(list: SupportList) -> bool
-    ensures { result ≡ has_support list }
-{
-    match list {
-        SupportList::Absent => false,
-        SupportList::Listed(_) => true,
-    }
-}
-
-fn both(a: bool, b: bool) -> bool
-    ensures { result ≡ (a && b) }
-{
-    if a { b } else { false }
 }
 
 impl Response {
     // The codec's check: 6/6, 1, 6/1, 1 for a support list below version 5, 6/7 for one with another status.
-    pub fn validate(self, version: u8) -> Validated
+    pub fn validate(self, version: u8) -> Result<(), Error>
         ensures { validated_by result ≡ refusal (response_rows version self) }
     {
         if map_length_refused(self.acknowledgments.bit_count) {
-            return Validated::Refused(Error::Field(ErrorField::AcknowledgmentMapLength));
+            return Err(Error::Field(ErrorField::AcknowledgmentMapLength));
         }
         if version < PV1 {
-            return Validated::Refused(Error::Version);
+            return Err(Error::Version);
         }
         if TRANSACTION_MASK < self.transaction_id {
-            return Validated::Refused(Error::Field(ErrorField::TransactionId));
+            return Err(Error::Field(ErrorField::TransactionId));
         }
-        let list = self.optional_services_support;
-        let support = has_support(list);
-        if both(support, version < PV5) {
-            return Validated::Refused(Error::Version);
+        let support = self.optional_services_support.is_some();
+        if support && version < PV5 {
+            return Err(Error::Version);
         }
-        let status = self.status;
-        if both(support, status_number(status) != SUPPORT_STATUS) {
-            return Validated::Refused(Error::Field(ErrorField::OptionalServicesSupportStatus));
+        if support && self.status != Status::MultipleServicesUnsupported {
+            return Err(Error::Field(ErrorField::OptionalServicesSupportStatus));
         }
-        Validated::Valid
+        Ok(())
     }
 }

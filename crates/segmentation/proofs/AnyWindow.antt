@@ -5,7 +5,7 @@ use Prim.Native.Nat.{ℕ, zero, suc, ◌+◌}
 use mathlib.Core.Path.{◌≡◌, refl, ap, ap₂, ◌∙◌}
 use mathlib.Core.List.{List, [], ◌∷◌, ◌++◌, map}
 use mathlib.Core.Bool.{Bool, true, false, not, ◌||◌, true≢false}
-use mathlib.Core.Option.{none}
+use Rattle.std.specs.Prelude.{Option, Some, None}
 use native.Mathlib.Omega.{arith}
 use lib.ListN.{length}
 use lib.Dec.{eqb, ltb}
@@ -13,8 +13,6 @@ use Rattle.tsar.specs.Rows.{Refusal, refusal, or_else}
 use Rattle.tsar.specs.Writing.{header_octets, codec_rows}
 use Rattle.tsar.specs.declared.AcknowledgmentWindow.{AcknowledgmentWindow}
 use Rattle.tsar.specs.declared.AcknowledgmentWindow.TheVariants as window
-use Rattle.tsar.specs.declared.MessageLength.{MessageLength}
-use Rattle.tsar.specs.declared.Services.TheVariants as optional
 use Rattle.tsar.specs.declared.SegmentHead.{SegmentHead}
 use Rattle.tsar.specs.declared.SegmentKind.{SegmentKind}
 use Rattle.tsar.specs.declared.SegmentKind.TheVariants as kind'
@@ -30,8 +28,8 @@ use Rattle.segmentation.proofs.Retired.{window_asked}
 
 -- a segment whose services, where it spells them out, ask for the window w
 abbrev pub asking : AcknowledgmentWindow → SegmentKind → SegmentKind
-asking w (kind'.Begin n optional.Absent) = kind'.Begin n optional.Absent
-asking w (kind'.Begin n (optional.SpelledOut s)) = kind'.Begin n (optional.SpelledOut (record { compression = s.compression; acknowledgment_window = w; crc_status = s.crc_status }))
+asking w (kind'.Begin n None) = kind'.Begin n None
+asking w (kind'.Begin n (Some s)) = kind'.Begin n (Some (record { compression = s.compression; acknowledgment_window = w; crc_status = s.crc_status }))
 asking w (kind'.Continue n) = kind'.Continue n
 asking w (kind'.End n c) = kind'.End n c
 
@@ -78,9 +76,9 @@ module _ (w : AcknowledgmentWindow) (q : Proposal) where
   rows_alike i transaction at h = go i h.segment.kind
     where
       go : (j : ℕ) (k : SegmentKind) → rows_of j transaction at (of_kind h (asking w k)) ≡ rows_of j transaction at (of_kind h k)
-      go j (kind'.Begin n optional.Absent) = refl
-      go zero (kind'.Begin n (optional.SpelledOut s)) = refl
-      go (suc j) (kind'.Begin n (optional.SpelledOut s)) = refl
+      go j (kind'.Begin n None) = refl
+      go zero (kind'.Begin n (Some s)) = refl
+      go (suc j) (kind'.Begin n (Some s)) = refl
       go j (kind'.Continue n) = refl
       go j (kind'.End n c) = refl
 
@@ -105,8 +103,8 @@ module _ (w : AcknowledgmentWindow) (q : Proposal) where
       ∷ []
 
   front_alike : (n : ℕ) (k : SegmentKind) → front_of n (asking w k) ≡ front_of n k
-  front_alike n (kind'.Begin l optional.Absent) = refl
-  front_alike n (kind'.Begin l (optional.SpelledOut s)) = refl
+  front_alike n (kind'.Begin l None) = refl
+  front_alike n (kind'.Begin l (Some s)) = refl
   front_alike n (kind'.Continue l) = refl
   front_alike n (kind'.End l c) = refl
 
@@ -121,7 +119,7 @@ module _ (w : AcknowledgmentWindow) (q : Proposal) where
       (segments_alike q.count 0)
 
 -- a Begin that spells services out asks for the window that is put there
-begin_asking : (w v : AcknowledgmentWindow) (n : MessageLength) (t : Bool) → t ≡ false → window_asked (asking w (kind'.Begin n (services_for v t))) ≡ w
+begin_asking : (w v : AcknowledgmentWindow) (n : Option ℕ) (t : Bool) → t ≡ false → window_asked (asking w (kind'.Begin n (services_for v t))) ≡ w
 begin_asking w v n true e = absurd (true≢false e)
 begin_asking w v n false e = refl
 
@@ -138,6 +136,6 @@ module _ (x : Spread) (n budget transaction : ℕ) (w : AcknowledgmentWindow) (v
       ∙ begin_asking window.Exceptions p.acknowledgment_window (planned_length p) (prohibited p.acknowledgment_window) (ap prohibited (plan_window x n budget transaction w version ceiling p ok) ∙ e)
 
   -- and is accepted
-  pub still_accepted : length message ≡ n → frozen_refusal under_exceptions ≡ none
+  pub still_accepted : length message ≡ n → frozen_refusal under_exceptions ≡ None
   still_accepted e =
       any_window window.Exceptions (proposal_of p (planned_heads p) message budget version ceiling) ∙ plan_frozen x n budget transaction w version ceiling p ok message e

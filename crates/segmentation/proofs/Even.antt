@@ -12,8 +12,8 @@ use Rattle.tsar.specs.declared.AcknowledgmentWindow.{AcknowledgmentWindow}
 use Rattle.tsar.specs.declared.AcknowledgmentWindow.TheVariants as window
 use Rattle.tsar.specs.declared.SegmentHead.{SegmentHead}
 use Rattle.segmentation.specs.declared.SegmentedMessage.{SegmentedMessage}
-use Rattle.segmentation.specs.declared.PlannedSegment.{PlannedSegment}
-use Rattle.segmentation.specs.declared.PlannedSegment.TheVariants.{NoSegment, Segment as Planned}
+use Rattle.std.specs.Prelude.{Option, Some, None}
+use Rattle.segmentation.specs.declared.PlannedPart.{PlannedPart}
 use Rattle.segmentation.specs.Plan.{Planning, unsegmented, refused, segmented, plan_message, even_message, plan_of, share_of, evened, spread, prohibited, segment_count, begin_data, later_capacity_of, longer, planned_head, part_length, segment_at}
 use Rattle.segmentation.specs.Capacities.{whole_part}
 use Rattle.segmentation.specs.Planned.{full, even, even_of, Plannable, later, share, over}
@@ -85,9 +85,9 @@ module _ (n budget transaction : ℕ) (w : AcknowledgmentWindow) (version ceilin
 -- ---- the laws: of an even plan p
 
 -- how many octets of data the public call gives for a segment; none where it gives no segment
-abbrev pub head_length : PlannedSegment → ℕ
-head_length NoSegment = 0
-head_length (Planned x) = x.head.segment_data_length
+abbrev pub head_length : Option PlannedPart → ℕ
+head_length None = 0
+head_length (Some x) = x.head.segment_data_length
 
 abbrev pub length_at : SegmentedMessage → ℕ → ℕ
 length_at p i = head_length (segment_at p i)
@@ -147,7 +147,7 @@ module _ (n budget transaction : ℕ) (w : AcknowledgmentWindow) (version ceilin
     pub same_begin : segment_at p 0 ≡ segment_at q 0
     same_begin =
         plan_segment even n budget transaction w version ceiling p ok 0 (positive p.count (plan_at_least even n budget transaction w version ceiling p ok))
-        ∙ ap (λ (h : SegmentHead). Planned (record { head = h; offset = 0 })) same_head_lem
+        ∙ ap (λ (h : SegmentHead). Some (record { head = h; offset = 0 })) same_head_lem
         ∙ sym (plan_segment full n budget transaction w version ceiling q given 0 (positive q.count (plan_at_least full n budget transaction w version ceiling q given)))
 
 -- ---- beside them plan_message's: document 01's later capacity in each but the last, and no longer ones

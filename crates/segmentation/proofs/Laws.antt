@@ -1,9 +1,8 @@
 -- A plan of either planner passes the frozen check: its heads, the message as the joined data, the same budget, version and ceiling. Assumes nothing.
 use Prim.Native.Nat.{ℕ, zero, suc, ◌-◌, ◌≤◌, ◌<◌}
-use Rattle.std.specs.Prelude.{◌≡◌, List, [], ◌∷◌, ◌++◌, length, take, drop, replicate}
+use Rattle.std.specs.Prelude.{◌≡◌, List, [], ◌∷◌, ◌++◌, length, take, drop, replicate, None}
 use Rattle.std.proofs.Math.Path.{refl}
 use Rattle.std.proofs.Common.{sym, ap, ◌∙◌, subst, ⊎_elim, arith, length-append}
-use Rattle.std.proofs.Math.Option.{none}
 use Rattle.std.proofs.lemmas.List.{length-replicate, get_or_at}
 use Rattle.std.proofs.Math.ListN.{get_or-append}
 use Rattle.octets.specs.Laws.{le_or_lt}
@@ -76,7 +75,7 @@ module _ (x : Spread) (n budget transaction : ℕ) (w : AcknowledgmentWindow) (v
       ∙ ap (λ (x : SegmentHead). x.segment.transaction_id) (sym (agrees 0 (omega (arith, plan_at_least x n budget transaction w version ceiling p ok))))
 
   -- heads that are a plan's below the count pass the frozen check, whatever stands past it
-  pub plan_heads_frozen : (message : List ℕ) → length message ≡ n → frozen_refusal (proposal_of p heads message budget version ceiling) ≡ none
+  pub plan_heads_frozen : (message : List ℕ) → length message ≡ n → frozen_refusal (proposal_of p heads message budget version ceiling) ≡ None
   plan_heads_frozen message e =
       cutting_accepted (proposal_of p heads message budget version ceiling)
       (record {
@@ -89,6 +88,6 @@ module _ (x : Spread) (n budget transaction : ℕ) (w : AcknowledgmentWindow) (v
       })
 
 -- what a planner gives passes the frozen check
-pub plan_frozen : (x : Spread) (n budget transaction : ℕ) (w : AcknowledgmentWindow) (version ceiling : ℕ) (p : SegmentedMessage) → planning x n budget transaction w version ceiling ≡ segmented p → (message : List ℕ) → length message ≡ n → frozen_refusal (proposal_of p (planned_heads p) message budget version ceiling) ≡ none
+pub plan_frozen : (x : Spread) (n budget transaction : ℕ) (w : AcknowledgmentWindow) (version ceiling : ℕ) (p : SegmentedMessage) → planning x n budget transaction w version ceiling ≡ segmented p → (message : List ℕ) → length message ≡ n → frozen_refusal (proposal_of p (planned_heads p) message budget version ceiling) ≡ None
 plan_frozen x n budget transaction w version ceiling p ok message e =
     plan_heads_frozen x n budget transaction w version ceiling p ok (planned_heads p) (planned_head_lem p) message e

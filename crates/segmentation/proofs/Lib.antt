@@ -8,3 +8,4 @@ pub mod Placing
 pub mod Retired
 pub mod AnyWindow
 pub mod Turns
+pub mod Cleared

@@ -1,55 +1,39 @@
--- Segment i of a plan as the code finds it: by whether i is 0, where the definitions go by `suc`. Assumes nothing.
-use Prim.Native.Nat.{ℕ, zero, suc, ◌+◌, ◌-◌, ◌*◌, ◌≤◌, ◌<◌, min}
-use mathlib.Core.Path.{◌≡◌, refl, ap, ◌∙◌}
+-- Segment i of a record as the code finds it: none, or that of has_segment's tests. Assumes nothing.
+use Prim.Native.Nat.{ℕ, ◌+◌, ◌-◌, ◌*◌, ◌≤◌, ◌<◌, min}
+use mathlib.Core.Path.{◌≡◌, refl, sym}
 use native.Mathlib.Omega.{arith}
-use native.Mathlib.Nat.{mul-le-mul}
-use borrow.Author.Tests.{eq-eqb, ne_eqb}
-use Rattle.tsar.specs.declared.MessageLength.TheVariants as len
-use Rattle.tsar.specs.declared.MessageCrc.TheVariants as crc
-use Rattle.tsar.specs.declared.SegmentKind.TheVariants as kind'
+use borrow.Author.Tests.{ltb-true, leb-true, lt-ltb, le-leb}
+use mathlib.Core.Bool.{Bool, true, false, cond, ◌&&◌, true≢false}
+use Rattle.std.specs.Prelude.{Option, Some, None}
+use Rattle.segmentation.specs.declared.PlannedPart.{PlannedPart}
 use Rattle.segmentation.specs.declared.SegmentedMessage.{SegmentedMessage}
-use Rattle.segmentation.specs.Plan.{longer, part_start, part_capacity, planned_length, planned_services, planned_kind}
+use Rattle.segmentation.specs.Plan.{longer, part_start, planned_head, has_segment, segment_at}
 
--- the product of two octets is small
-pub product_small : {a b : ℕ} → a ≤ 255 → b ≤ 255 → a * b ≤ 65025
-product_small h k = mul-le-mul h k
+both_true : (a b : Bool) → (a && b) ≡ true → (a ≡ true) × (b ≡ true)
+both_true true b e = (refl, e)
+both_true false b e = (e, absurd (true≢false (sym e)))
 
 module _ (p : SegmentedMessage) where
-  pub first_start : (i : ℕ) → i ≡ 0 → part_start p i ≡ 0
-  first_start zero e = refl
-  first_start (suc i) e = absurd (omega arith)
-
-  pub later_start : (i : ℕ) → (i ≡ 0 → ⊥) → part_start p i ≡ p.begin_octets + ((i - 1) * p.later_capacity + min (i - 1) (longer p))
-  later_start zero n = absurd (n refl)
-  later_start (suc i) n =
-      let e : i ≡ suc i - 1 = omega arith in
-      let f : p.begin_octets + i * p.later_capacity + min i (longer p) ≡ p.begin_octets + (i * p.later_capacity + min i (longer p)) = omega arith in
-      f ∙ ap (λ (k : ℕ). p.begin_octets + (k * p.later_capacity + min k (longer p))) e
-
-  pub later_capacity : (i : ℕ) → (i ≡ 0 → ⊥) → longer p < i → part_capacity p i ≡ p.later_capacity
-  later_capacity zero n h = absurd (n refl)
-  later_capacity (suc i) n h = omega arith
-
-  pub longer_capacity : (i : ℕ) → (i ≡ 0 → ⊥) → i ≤ longer p → part_capacity p i ≡ p.later_capacity + 1
-  longer_capacity zero n h = absurd (n refl)
-  longer_capacity (suc i) n h = omega arith
-
-  pub held_all : p.message_octets ≤ p.begin_octets + (p.count - 1) * p.later_capacity → longer p ≡ 0
-  unfolding longer
-  held_all h = omega arith
-
   pub held_less : p.message_octets - (p.begin_octets + (p.count - 1) * p.later_capacity) ≡ longer p
   unfolding longer
   held_less = omega arith
 
-  pub first_kind : (i : ℕ) → i ≡ 0 → planned_kind p i ≡ kind'.Begin (planned_length p) (planned_services p.acknowledgment_window)
-  first_kind zero e = refl
-  first_kind (suc i) e = absurd (omega arith)
+  -- a record with a segment has what its sums need
+  pub fits : (i : ℕ) → has_segment p i ≡ true → (i < p.count) × (p.count ≤ 256) × (p.begin_octets ≤ 255) × (p.later_capacity + min 1 (longer p) ≤ 255) × (part_start p i ≤ p.message_octets)
+  fits i e =
+      let a = both_true _ _ e in
+      let b = both_true _ _ a.0 in
+      let c = both_true _ _ b.0 in
+      let d = both_true _ _ c.0 in (ltb-true _ _ d.0, leb-true _ _ d.1, leb-true _ _ c.1, leb-true _ _ b.1, leb-true _ _ a.1)
 
-  pub last_kind : (i : ℕ) → (i ≡ 0 → ⊥) → i + 1 ≡ p.count → planned_kind p i ≡ kind'.End len.Unstated crc.Absent
-  last_kind zero n e = absurd (n refl)
-  last_kind (suc i) n e = rw (eq-eqb (suc (suc i)) p.count (omega arith))
+  pub no_segment : (i : ℕ) → ((i < p.count) × (p.count ≤ 256) × (p.begin_octets ≤ 255) × (p.later_capacity + min 1 (longer p) ≤ 255) × (part_start p i ≤ p.message_octets) → ⊥) → segment_at p i ≡ None
+  unfolding segment_at
+  no_segment i n = go (has_segment p i) refl
+    where
+      go : (t : Bool) → has_segment p i ≡ t → cond {A = Option PlannedPart} t (Some (record { head = planned_head p i; offset = part_start p i })) None ≡ None
+      go true e = absurd (n (fits i e))
+      go false e = refl
 
-  pub inner_kind : (i : ℕ) → (i ≡ 0 → ⊥) → (i + 1 ≡ p.count → ⊥) → planned_kind p i ≡ kind'.Continue len.Unstated
-  inner_kind zero n e = absurd (n refl)
-  inner_kind (suc i) n e = rw (ne_eqb (suc (suc i)) p.count (λ h. e (omega arith)))
+  pub with_segment : (i : ℕ) → i < p.count → p.count ≤ 256 → p.begin_octets ≤ 255 → p.later_capacity + min 1 (longer p) ≤ 255 → part_start p i ≤ p.message_octets → segment_at p i ≡ Some (record { head = planned_head p i; offset = part_start p i })
+  unfolding segment_at
+  with_segment i a b c d e = simp (lt-ltb _ _ a, le-leb _ _ b, le-leb _ _ c, le-leb (p.later_capacity + min 1 (longer p)) 255 d, le-leb (part_start p i) p.message_octets e)

@@ -1,20 +1,17 @@
 -- What holds of every plan that a planner gives, plan_message or the even one: its segments are a true cutting of the message, each is one that the
 -- codec writes under the plan's version, and each is within the budget. Assumes nothing.
 use Prim.Native.Nat.{ℕ, zero, suc, ◌+◌, ◌-◌, ◌*◌, ◌≤◌, ◌<◌, min}
-use Rattle.std.specs.Prelude.{◌≡◌, List, [], ◌∷◌, Bool, true, false, cond, not, ◌&&◌, length, leb, ltb}
+use Rattle.std.specs.Prelude.{◌≡◌, List, [], ◌∷◌, Bool, true, false, cond, not, ◌&&◌, length, leb, ltb, Some, None}
 use Rattle.std.proofs.Math.Path.{refl, ap}
 use Rattle.std.proofs.Common.{sym, ◌∙◌, subst, true≢false, ⊎_elim, mod-lt, le-div_iff_mul-le, mul-le-mul_left, mul-le-mul_right, length-take, ltb-true, ltb-false, leb-false, le-ltb}
-use Rattle.std.proofs.Math.Option.{none}
 use native.Mathlib.Omega.{arith}
 use Rattle.std.proofs.Math.Nat.{div-add-mod, div-le_of_le-mul}
 use Rattle.octets.specs.Laws.{le_or_lt}
 use Rattle.std.proofs.lemmas.Bool.{lt-leb}
 use Rattle.tsar.specs.Rows.{first_of, test, refusal, refusal_pass, AllFalse}
-use Rattle.tsar.specs.Writing.{codec_rows, header_octets, length_octets, services_octets}
+use Rattle.tsar.specs.Writing.{codec_rows, header_octets, word_octets}
 use Rattle.tsar.specs.declared.AcknowledgmentWindow.{AcknowledgmentWindow}
-use Rattle.tsar.specs.declared.MessageLength.TheVariants as len
 use Rattle.segmentation.specs.declared.SegmentedMessage.{SegmentedMessage}
-use Rattle.segmentation.specs.declared.PlannedSegment.TheVariants.{Segment as Planned}
 use Rattle.segmentation.specs.Plan.{Planning, unsegmented, refused, segmented, plan_message, plan_rows, plan_of, share_of, evened, spread, longer, rounded_up, begin_data, later_capacity_of, prohibited, bare_octets, begin_header, segment_count, services_for, planned_kind, planned_head, part_start, part_length, has_segment, segment_at, planned_whole}
 use Rattle.segmentation.specs.Cutting.{Cutting}
 use Rattle.segmentation.specs.Capacities.{Capacities, up_covers, up_some, up_least, part_within, part_short, next_start, last_end, parts_make, later_continues, last_ends, kind_plain, kind_states, kind_length, kind_crc, kind_first, later_header, has_segment_lem}
@@ -58,7 +55,7 @@ begin_header_lem : (n budget transaction : ℕ) (w : AcknowledgmentWindow) → h
 unfolding header_octets plan_of
 begin_header_lem n budget transaction w = go (prohibited w) (leb n 4095) (ltb (bare_octets (prohibited w) + 2) budget)
   where
-    go : (p s t : Bool) → 3 + length_octets (cond (s && t && s) (len.Stated n) len.Unstated) + services_octets (services_for w p) ≡ cond (s && t) (bare_octets p + 2) (bare_octets p)
+    go : (p s t : Bool) → 3 + word_octets (cond (s && t && s) (Some n) None) + word_octets (services_for w p) ≡ cond (s && t) (bare_octets p + 2) (bare_octets p)
     go true true true = refl
     go true true false = refl
     go true false t = refl
@@ -312,7 +309,7 @@ module _ (x : Spread) (n budget transaction : ℕ) (w : AcknowledgmentWindow) (v
   pub plan_has : (i : ℕ) → i < p.count → has_segment p i ≡ true
   plan_has = has_segment_lem p plan_capacities
 
-  pub plan_segment : (i : ℕ) → i < p.count → segment_at p i ≡ Planned (record { head = planned_head p i; offset = part_start p i })
+  pub plan_segment : (i : ℕ) → i < p.count → segment_at p i ≡ Some (record { head = planned_head p i; offset = part_start p i })
   unfolding segment_at
   plan_segment i h = rw (plan_has i h)
 
@@ -332,7 +329,7 @@ module _ (x : Spread) (n budget transaction : ℕ) (w : AcknowledgmentWindow) (v
   plan_last (suc i) h = last_end p plan_capacities i h ∙ plan_octets
 
   -- each segment is one that the codec writes under the plan's version
-  pub plan_codec : (i : ℕ) → refusal (codec_rows version (planned_head p i).segment (planned_head p i).segment_data_length) ≡ none
+  pub plan_codec : (i : ℕ) → refusal (codec_rows version (planned_head p i).segment (planned_head p i).segment_data_length) ≡ None
   plan_codec i =
       refusal_pass (codec_rows version (planned_head p i).segment (planned_head p i).segment_data_length)
       (le-ltb version 1 plan_arguments.served, (le-ltb 7 p.transaction_id (rw plan_transaction plan_arguments.small), (le-ltb 255 (part_length p i) (plan_short i), (kind_first p i, (kind_length p i, (kind_crc p i, tt))))))

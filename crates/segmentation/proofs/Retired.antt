@@ -5,7 +5,7 @@ use Prim.Native.Nat.{ℕ, zero, suc, ◌≤◌, ◌<◌}
 use mathlib.Core.Path.{◌≡◌, refl, sym, ap, ◌∙◌}
 use mathlib.Core.List.{List, [], ◌∷◌, ◌++◌, map}
 use mathlib.Core.Bool.{Bool, true, false, cond, not, ◌&&◌, true≢false}
-use mathlib.Core.Option.{none}
+use Rattle.std.specs.Prelude.{Some, None}
 use lib.ListN.{replicate}
 use lib.Dec.{eqb, leb, ltb}
 use borrow.Author.Tests.{ltb-false, leb-false, lt-ltb, le-ltb, le-leb, lt-leb}
@@ -17,10 +17,7 @@ use Rattle.tsar.specs.declared.AcknowledgmentWindow.{AcknowledgmentWindow}
 use Rattle.tsar.specs.declared.AcknowledgmentWindow.TheVariants as window
 use Rattle.tsar.specs.declared.Compression.TheVariants as compression
 use Rattle.tsar.specs.declared.CrcStatus.TheVariants as status
-use Rattle.tsar.specs.declared.Services.TheVariants as optional
 use Rattle.tsar.specs.declared.SegmentHead.{SegmentHead}
-use Rattle.tsar.specs.declared.MessageLength.TheVariants as len
-use Rattle.tsar.specs.declared.MessageCrc.TheVariants as crc
 use Rattle.tsar.specs.declared.SegmentKind.{SegmentKind}
 use Rattle.tsar.specs.declared.SegmentKind.TheVariants as kind'
 use Rattle.segmentation.specs.declared.SegmentedMessage.{SegmentedMessage}
@@ -155,7 +152,7 @@ module _ (x : Spread) (n budget transaction : ℕ) (w : AcknowledgmentWindow) (v
     none_asks zero = λ e. no_exceptions (sym (begin_asks p) ∙ e)
     none_asks (suc i) = go (eqb (suc (suc i)) p.count)
       where
-        go : (t : Bool) → window_asked (cond t (kind'.End len.Unstated crc.Absent) (kind'.Continue len.Unstated)) ≡ window.Exceptions → ⊥
+        go : (t : Bool) → window_asked (cond t (kind'.End None None) (kind'.Continue None)) ≡ window.Exceptions → ⊥
         go true = not_exceptions window.Prohibited refl
         go false = not_exceptions window.Prohibited refl
 
@@ -167,13 +164,13 @@ exceptions_begin =
       segment = record {
         transaction_id = 0;
         sequence_number = 0;
-        kind = kind'.Begin (len.Stated 7) (optional.SpelledOut (record { compression = compression.None; acknowledgment_window = window.Exceptions; crc_status = status.None }));
+        kind = kind'.Begin (Some 7) (Some (record { compression = compression.None; acknowledgment_window = window.Exceptions; crc_status = status.None }));
       };
       segment_data_length = 2;
     }
 
 abbrev exceptions_end : SegmentHead
-exceptions_end = record { segment = record { transaction_id = 0; sequence_number = 1; kind = kind'.End len.Unstated crc.Absent }; segment_data_length = 5 }
+exceptions_end = record { segment = record { transaction_id = 0; sequence_number = 1; kind = kind'.End None None }; segment_data_length = 5 }
 
 abbrev pub exceptions_train : Proposal
 exceptions_train =
@@ -187,7 +184,7 @@ exceptions_train =
       ceiling = 9;
     }
 
-pub exceptions_accepted : frozen_refusal exceptions_train ≡ none
+pub exceptions_accepted : frozen_refusal exceptions_train ≡ None
 unfolding frozen_refusal segments_from data_before header_octets same_octets
 exceptions_accepted = refl
 

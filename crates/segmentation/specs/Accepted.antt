@@ -1,8 +1,8 @@
 -- What the frozen check accepts, whoever proposed it: exactly the true cuttings of the message whose segments the codec writes and the budget
 -- holds. Assumes nothing.
-use Rattle.std.specs.Prelude.{ℕ, zero, suc, ◌+◌, ◌≤◌, ◌<◌, ◌≡◌, refl, List, [], ◌∷◌, Bool, true, false, cond, not, ◌||◌, ◌↔◌, length, take, drop, eqb, ltb}
+use Rattle.std.specs.Prelude.{ℕ, zero, suc, ◌+◌, ◌≤◌, ◌<◌, ◌≡◌, refl, List, [], ◌∷◌, Bool, true, false, cond, not, ◌||◌, ◌↔◌, length, take, drop, eqb, ltb, Option, Some, None}
 use Rattle.std.proofs.Common.{sym, ap, ap₂, ◌∙◌, subst, true≢false, ⊎_elim, arith, zero-add, add-zero, add-suc, suc-add, length-take, take_all, ltb-false, eqb-true, eq-eqb, ne_eqb, le-ltb}
-use Rattle.std.proofs.Math.Option.{Option, none, some}
+use Rattle.segmentation.specs.declared.PlannedPart.{PlannedPart}
 use Rattle.std.proofs.lemmas.Bool.{eqb-false, not-false}
 use Rattle.octets.specs.Laws.{le_or_lt}
 use Rattle.octets.specs.Octets.{same_true, same_eq}
@@ -11,8 +11,6 @@ use Rattle.tsar.specs.Writing.{codec_rows, header_octets, length_in}
 use Rattle.tsar.specs.Layout.{WholeSegment, whole}
 use Rattle.tsar.specs.declared.SegmentKind.{SegmentKind}
 use Rattle.tsar.specs.declared.SegmentHead.{SegmentHead}
-use Rattle.segmentation.specs.declared.PlannedSegment.{PlannedSegment}
-use Rattle.segmentation.specs.declared.PlannedSegment.TheVariants.{Segment as Planned}
 use Rattle.segmentation.specs.Cutting.{Cutting, join_to, is_continue, is_end, plain_kind, states_other}
 use Rattle.segmentation.specs.Frozen.{Proposal, proposed, head_at, data_before, placed, data_rows, segment_rows, segments_from, frozen_rows, frozen_refusal, kept_heads, frozen_of, frozen_segment_at}
 use Rattle.segmentation.specs.Joined.{join_cong, parts_join, cutting_cong}
@@ -23,18 +21,18 @@ pub record Acceptable (q : Proposal) : Type 0 where
   pub within_ceiling : q.budget ≤ q.ceiling
   pub sums : length q.joined ≡ data_before q.heads q.count
   pub cutting : Cutting q.message (head_at q.heads 0).segment.transaction_id q.count (proposed q)
-  pub codec : (i : ℕ) → i < q.count → refusal (codec_rows q.version (head_at q.heads i).segment (head_at q.heads i).segment_data_length) ≡ none
+  pub codec : (i : ℕ) → i < q.count → refusal (codec_rows q.version (head_at q.heads i).segment (head_at q.heads i).segment_data_length) ≡ None
   pub fits : (i : ℕ) → i < q.count → header_octets (head_at q.heads i).segment.kind + (head_at q.heads i).segment_data_length ≤ q.budget
 
 -- ---- rows after rows
 
-or_else_none : (a b : Option Refusal) → or_else a b ≡ none → (a ≡ none) × (b ≡ none)
-or_else_none none b e = (refl, e)
-or_else_none (some r) b e = (cc, cc)
+or_else_none : (a b : Option Refusal) → or_else a b ≡ None → (a ≡ None) × (b ≡ None)
+or_else_none None b e = (refl, e)
+or_else_none (Some r) b e = (cc, cc)
 
-or_else_pass : (a b : Option Refusal) → a ≡ none → b ≡ none → or_else a b ≡ none
-or_else_pass none b e f = f
-or_else_pass (some r) b e f = e
+or_else_pass : (a b : Option Refusal) → a ≡ None → b ≡ None → or_else a b ≡ None
+or_else_pass None b e f = f
+or_else_pass (Some r) b e f = e
 
 or_false : (a b : Bool) → (a || b) ≡ false → (a ≡ false) × (b ≡ false)
 or_false true b e = absurd (true≢false e)
@@ -62,7 +60,7 @@ rows_of q i = refusal_append (codec_rows q.version (head_at q.heads i).segment (
 
 -- ---- accepted: what each segment has passed
 
-segments_passed : (q : Proposal) (k i : ℕ) → segments_from q k i ≡ none → (j : ℕ) → i ≤ j → j < i + k → refusal (segment_rows q j) ≡ none
+segments_passed : (q : Proposal) (k i : ℕ) → segments_from q k i ≡ None → (j : ℕ) → i ≤ j → j < i + k → refusal (segment_rows q j) ≡ None
 unfolding segments_from
 segments_passed q zero i e j a b = absurd (omega arith)
 segments_passed q (suc k) i e j a b =
@@ -71,7 +69,7 @@ segments_passed q (suc k) i e j a b =
     (λ (l : j < suc i). let n : j ≡ i = omega arith in ap (λ (m : ℕ). refusal (segment_rows q m)) n ∙ h.0)
     (le_or_lt (suc i) j)
 
-segments_end : (q : Proposal) (k i : ℕ) → segments_from q k i ≡ none → data_before q.heads (i + k) ≡ length q.message
+segments_end : (q : Proposal) (k i : ℕ) → segments_from q k i ≡ None → data_before q.heads (i + k) ≡ length q.message
 unfolding segments_from
 segments_end q zero i e =
     ap (data_before q.heads) (add-zero i)
@@ -94,15 +92,15 @@ pub heads_join : (q : Proposal) (l : List ℕ) → join_to q.count (λ i. take (
 heads_join q l =
     parts_join l (data_before q.heads) (λ i. (head_at q.heads i).segment_data_length) q.count (before_zero q.heads) (λ i h. before_suc q.heads i)
 
-module _ (q : Proposal) (ok : frozen_refusal q ≡ none) where
-  both : (refusal (frozen_rows q) ≡ none) × (segments_from q q.count 0 ≡ none)
+module _ (q : Proposal) (ok : frozen_refusal q ≡ None) where
+  both : (refusal (frozen_rows q) ≡ None) × (segments_from q q.count 0 ≡ None)
   unfolding frozen_refusal
   both = or_else_none (refusal (frozen_rows q)) (segments_from q q.count 0) ok
 
   front : (n : ℕ) → test (frozen_rows q) n ≡ false
   front = refusal_none (frozen_rows q) both.0
 
-  passed : (i : ℕ) → i < q.count → (codec_of q i ≡ none) × (refusal (budget_row q i ∷ cut_rows q i) ≡ none)
+  passed : (i : ℕ) → i < q.count → (codec_of q i ≡ None) × (refusal (budget_row q i ∷ cut_rows q i) ≡ None)
   passed i h =
       or_else_none (codec_of q i) (refusal (budget_row q i ∷ cut_rows q i))
       (sym (rows_of q i) ∙ segments_passed q q.count 0 both.1 i (omega arith) (omega arith))
@@ -183,7 +181,7 @@ module _ (q : Proposal) (sums : length q.joined ≡ data_before q.heads q.count)
   cuts_pass i h =
       (ap not (eq-eqb _ _ (c.one_transaction i h)), (ap not (eq-eqb _ _ (c.numbered i h)), (ap not (placed_right q c i h), (ap not (c.plain i h), (c.states i h, (le-ltb _ _ (cut_within i h), (ap not (same_eq _ _ (ap (λ (l : List ℕ). take (head_at q.heads i).segment_data_length (drop (data_before q.heads i) l)) joined_message)), tt)))))))
 
-segments_pass : (q : Proposal) (k i : ℕ) → ((j : ℕ) → i ≤ j → j < i + k → refusal (segment_rows q j) ≡ none) → data_before q.heads (i + k) ≡ length q.message → segments_from q k i ≡ none
+segments_pass : (q : Proposal) (k i : ℕ) → ((j : ℕ) → i ≤ j → j < i + k → refusal (segment_rows q j) ≡ None) → data_before q.heads (i + k) ≡ length q.message → segments_from q k i ≡ None
 unfolding segments_from
 segments_pass q zero i h e =
     refusal_pass ((not (eqb (data_before q.heads i) (length q.message)), (23, 0)) ∷ [])
@@ -192,14 +190,14 @@ segments_pass q (suc k) i h e =
     rw (h i (omega arith) (omega arith))
     (segments_pass q k (suc i) (λ j a b. h j (omega arith) (omega arith)) (ap (data_before q.heads) (suc-add i k ∙ sym (add-suc i k)) ∙ e))
 
-segment_pass : (q : Proposal) → Acceptable q → (i : ℕ) → i < q.count → refusal (segment_rows q i) ≡ none
+segment_pass : (q : Proposal) → Acceptable q → (i : ℕ) → i < q.count → refusal (segment_rows q i) ≡ None
 segment_pass q a i h =
     rows_of q i
     ∙ or_else_pass (codec_of q i) (refusal (budget_row q i ∷ cut_rows q i)) (a.codec i h)
     (refusal_pass (budget_row q i ∷ cut_rows q i) (le-ltb _ _ (a.fits i h), cuts_pass q a.sums a.cutting i h))
 
 -- a true cutting within budget and ceiling that the codec writes is accepted
-pub cutting_accepted : (q : Proposal) → Acceptable q → frozen_refusal q ≡ none
+pub cutting_accepted : (q : Proposal) → Acceptable q → frozen_refusal q ≡ None
 unfolding frozen_refusal
 cutting_accepted q a =
     let c = a.cutting in
@@ -209,7 +207,7 @@ cutting_accepted q a =
     (segments_pass q q.count 0 (λ j b h. segment_pass q a j (omega arith)) (ap (data_before q.heads) (zero-add q.count) ∙ cut_end q a.sums c))
 
 -- so it accepts exactly these
-pub accepted_iff : (q : Proposal) → (frozen_refusal q ≡ none) ↔ Acceptable q
+pub accepted_iff : (q : Proposal) → (frozen_refusal q ≡ None) ↔ Acceptable q
 accepted_iff q = (frozen_acceptable q, cutting_accepted q)
 
 -- ---- other heads
@@ -238,16 +236,16 @@ acceptable_heads q heads e a =
     }
 
 -- the plan that the check gives, proposed again, is accepted again
-pub frozen_again : (q : Proposal) → frozen_refusal q ≡ none → frozen_refusal (with_heads q (kept_heads q.heads q.count)) ≡ none
+pub frozen_again : (q : Proposal) → frozen_refusal q ≡ None → frozen_refusal (with_heads q (kept_heads q.heads q.count)) ≡ None
 frozen_again q ok =
     cutting_accepted (with_heads q (kept_heads q.heads q.count))
     (acceptable_heads q (kept_heads q.heads q.count) (λ i h. sym (kept_head q.heads q.count i h)) (frozen_acceptable q ok))
 
 -- and has every segment that was proposed
-pub frozen_segment : (q : Proposal) → frozen_refusal q ≡ none → (i : ℕ) → i < q.count → frozen_segment_at (frozen_of q) i ≡ Planned (record { head = head_at q.heads i; offset = data_before q.heads i })
+pub frozen_segment : (q : Proposal) → frozen_refusal q ≡ None → (i : ℕ) → i < q.count → frozen_segment_at (frozen_of q) i ≡ Some (record { head = head_at q.heads i; offset = data_before q.heads i })
 frozen_segment q ok i h =
     let a = frozen_acceptable q ok in
     let c = a.cutting in
     let within : data_before (kept_heads q.heads q.count) (suc i) ≤ length q.message = omega (arith, kept_before q.heads q.count (suc i) h, before_suc q.heads i, cut_within q a.sums c i h) in
     segment_some (frozen_of q) i h (omega (arith, c.at_most)) within
-    ∙ ap₂ {C = PlannedSegment} (λ (x : SegmentHead) (o : ℕ). Planned (record { head = x; offset = o })) (kept_head q.heads q.count i h) (kept_before q.heads q.count i (omega arith))
+    ∙ ap₂ {C = Option PlannedPart} (λ (x : SegmentHead) (o : ℕ). Some (record { head = x; offset = o })) (kept_head q.heads q.count i h) (kept_before q.heads q.count i (omega arith))

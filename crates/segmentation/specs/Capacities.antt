@@ -1,5 +1,5 @@
 -- A plan's record whose capacities and count fit together: where its parts begin and end, and of what kinds its segments are. Assumes nothing.
-use Rattle.std.specs.Prelude.{ℕ, zero, suc, ◌+◌, ◌-◌, ◌*◌, ◌≤◌, ◌<◌, min, ◌≡◌, refl, List, Bool, true, false, cond, not, ◌&&◌, ◌⊎◌, length, take, drop, eqb, leb}
+use Rattle.std.specs.Prelude.{ℕ, zero, suc, ◌+◌, ◌-◌, ◌*◌, ◌≤◌, ◌<◌, min, ◌≡◌, refl, List, Bool, true, false, cond, not, ◌&&◌, ◌⊎◌, length, take, drop, eqb, leb, Option, Some, None}
 use Rattle.std.proofs.Common.{sym, ◌∙◌, div-add-mod', mod-lt, le-div_iff_mul-le, leb-true, eq-eqb, ne_eqb, le-leb, le-ltb, lt-ltb}
 use Rattle.std.proofs.Math.Path.{ap}
 use Rattle.std.proofs.Math.Logic.{inl, inr, ⊎_elim}
@@ -8,9 +8,6 @@ use Rattle.octets.specs.Laws.{le_or_lt}
 use Rattle.tsar.specs.Writing.{header_octets, length_in, crc_in, too_long, crc_too_large}
 use Rattle.tsar.specs.Layout.{type_of}
 use Rattle.tsar.specs.Reading.{begin_test}
-use Rattle.tsar.specs.declared.MessageLength.{MessageLength}
-use Rattle.tsar.specs.declared.MessageLength.TheVariants as len
-use Rattle.tsar.specs.declared.MessageCrc.TheVariants as crc
 use Rattle.tsar.specs.declared.SegmentKind.{SegmentKind}
 use Rattle.tsar.specs.declared.SegmentKind.TheVariants as kind'
 use Rattle.segmentation.specs.declared.SegmentedMessage.{SegmentedMessage}
@@ -114,10 +111,10 @@ module _ (p : SegmentedMessage) (sound : Capacities p) where
 -- ---- the kinds of any plan's record
 
 -- a claim on End and on Continue is one on every later kind
-later_kind : (P : SegmentKind → Type 0) (p : SegmentedMessage) (i : ℕ) → P (kind'.End len.Unstated crc.Absent) → P (kind'.Continue len.Unstated) → P (planned_kind p (suc i))
+later_kind : (P : SegmentKind → Type 0) (p : SegmentedMessage) (i : ℕ) → P (kind'.End None None) → P (kind'.Continue None) → P (planned_kind p (suc i))
 later_kind P p i a b = go (eqb (suc (suc i)) p.count)
   where
-    go : (t : Bool) → P (cond t (kind'.End len.Unstated crc.Absent) (kind'.Continue len.Unstated))
+    go : (t : Bool) → P (cond t (kind'.End None None) (kind'.Continue None))
     go true = a
     go false = b
 
@@ -131,10 +128,10 @@ kind_plain p zero = go (prohibited p.acknowledgment_window)
 kind_plain p (suc i) = later_kind (λ k. plain_kind k ≡ true) p i refl refl
 
 -- a length that is stated is the message's, and is one that can be written
-length_stated : (P : MessageLength → Type 0) (p : SegmentedMessage) → (p.message_octets ≤ 4095 → P (len.Stated p.message_octets)) → P len.Unstated → P (planned_length p)
+length_stated : (P : Option ℕ → Type 0) (p : SegmentedMessage) → (p.message_octets ≤ 4095 → P (Some p.message_octets)) → P None → P (planned_length p)
 length_stated P p a b = go p.states_length (leb p.message_octets 4095) refl
   where
-    go : (s t : Bool) → leb p.message_octets 4095 ≡ t → P (cond (s && t) (len.Stated p.message_octets) len.Unstated)
+    go : (s t : Bool) → leb p.message_octets 4095 ≡ t → P (cond (s && t) (Some p.message_octets) None)
     go true true e = a (leb-true p.message_octets 4095 e)
     go true false e = b
     go false t e = b

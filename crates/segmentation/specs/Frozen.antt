@@ -1,25 +1,18 @@
 -- What try_from_frozen answers: document 01, 'Port order' 2, the frozen order, and the plan that it gives.
-use Rattle.std.specs.Prelude.{ℕ, zero, suc, ◌+◌, ◌-◌, List, [], ◌∷◌, ◌++◌, Bool, cond, not, ◌&&◌, ◌||◌, length, get_or, take, drop, replicate, eqb, leb, ltb}
-use Rattle.std.proofs.Math.Option.{Option, none, some}
+use Rattle.std.specs.Prelude.{ℕ, zero, suc, ◌+◌, ◌-◌, List, [], ◌∷◌, ◌++◌, Bool, cond, not, ◌&&◌, ◌||◌, length, get_or, take, drop, replicate, eqb, leb, ltb, Option, Result, Some, None, Ok, Err}
+use Rattle.tsar.specs.declared.OptionalServices.{OptionalServices}
+use Rattle.segmentation.specs.declared.PlannedPart.{PlannedPart}
+use Rattle.segmentation.specs.declared.PlanningError.{PlanningError}
 use Rattle.octets.specs.Octets.{same_octets}
 use Rattle.tsar.specs.Rows.{Refusal, refusal, or_else}
 use Rattle.tsar.specs.Layout.{WholeSegment, whole}
 use Rattle.tsar.specs.Writing.{codec_rows, header_octets, length_in}
 use Rattle.tsar.specs.declared.AcknowledgmentWindow.TheVariants.{Prohibited}
-use Rattle.tsar.specs.declared.MessageLength.TheVariants as len
-use Rattle.tsar.specs.declared.Services.{Services}
-use Rattle.tsar.specs.declared.Services.TheVariants as optional
 use Rattle.tsar.specs.declared.SegmentKind.{SegmentKind}
 use Rattle.tsar.specs.declared.SegmentKind.TheVariants as kind'
 use Rattle.tsar.specs.declared.SegmentHead.{SegmentHead}
 use Rattle.segmentation.specs.declared.FrozenMessage.{FrozenMessage}
-use Rattle.segmentation.specs.declared.FrozenAnswer.{FrozenAnswer}
-use Rattle.segmentation.specs.declared.FrozenAnswer.TheVariants as answered
-use Rattle.segmentation.specs.declared.FrozenCheck.{FrozenCheck}
-use Rattle.segmentation.specs.declared.PlannedSegment.{PlannedSegment}
-use Rattle.segmentation.specs.declared.PlannedSegment.TheVariants.{NoSegment, Segment as Planned}
-use Rattle.segmentation.specs.declared.DataStart.{DataStart}
-use Rattle.segmentation.specs.declared.DataStart.TheVariants.{At, Past}
+use Rattle.segmentation.specs.declared.PlanAnswer.{PlanAnswer}
 use Rattle.segmentation.specs.Numbers.{planning_number}
 use Rattle.segmentation.specs.Cutting.{is_begin, is_continue, is_end, services_or_default, plain_kind, states_other}
 
@@ -27,7 +20,7 @@ use Rattle.segmentation.specs.Cutting.{is_begin, is_continue, is_end, services_o
 abbrev pub no_head : SegmentHead
 no_head =
     record {
-      segment = record { transaction_id = 0; sequence_number = 0; kind = kind'.Begin len.Unstated optional.Absent };
+      segment = record { transaction_id = 0; sequence_number = 0; kind = kind'.Begin None None };
       segment_data_length = 0;
     }
 
@@ -53,6 +46,11 @@ pub record Proposal : Type 0 where
   pub budget : ℕ
   pub version : ℕ
   pub ceiling : ℕ
+
+-- what is proposed of all the heads of a list; the ceiling is no matter of the segments
+abbrev pub proposed_by : List SegmentHead → List ℕ → List ℕ → ℕ → ℕ → Proposal
+proposed_by heads joined message budget version =
+    record { heads = heads; count = length heads; joined = joined; message = message; budget = budget; version = version; ceiling = 0 }
 
 -- segment i with its data
 abbrev pub proposed : Proposal → ℕ → WholeSegment
@@ -109,10 +107,10 @@ frozen_refusal p = or_else (refusal (frozen_rows p)) (segments_from p p.count 0)
 
 -- ---- the plan that is given
 
-abbrev pub services_of : SegmentKind → Services
+abbrev pub services_of : SegmentKind → Option OptionalServices
 services_of (kind'.Begin n s) = s
-services_of (kind'.Continue n) = optional.Absent
-services_of (kind'.End n c) = optional.Absent
+services_of (kind'.Continue n) = None
+services_of (kind'.End n c) = None
 
 -- the heads below the count; those at and past it empty
 unfoldable pub kept_heads : List SegmentHead → ℕ → List SegmentHead
@@ -144,29 +142,38 @@ pub record Checked : Type 0 where
   pub plan : FrozenMessage
 
 abbrev pub checked_as : Option Refusal → Proposal → Checked
-checked_as none p = record { refused = none; plan = frozen_of p }
-checked_as (some r) p = record { refused = some r; plan = no_plan }
+checked_as None p = record { refused = None; plan = frozen_of p }
+checked_as (Some r) p = record { refused = Some r; plan = no_plan }
 
 unfoldable pub try_from_frozen : Proposal → Checked
 try_from_frozen p = checked_as (frozen_refusal p) p
 
 -- what try_from_frozen's answer says
-abbrev pub answer_by : FrozenAnswer → Option Refusal
-answer_by answered.Accepted = none
-answer_by (answered.Refused e) = some (planning_number e)
+abbrev pub answer_by : Result Unit PlanningError → Option Refusal
+answer_by (Ok tt) = None
+answer_by (Err e) = Some (planning_number e)
 
-abbrev pub checked_by : FrozenCheck → Checked
+abbrev pub checked_by : PlanAnswer PlanningError → Checked
 checked_by c = record { refused = answer_by c.answer; plan = c.plan }
+
+-- the same of a plan or its refusal; and how a plan or a refusal is answered
+abbrev pub plan_by : Result FrozenMessage PlanningError → Checked
+plan_by (Ok p) = record { refused = None; plan = p }
+plan_by (Err e) = record { refused = Some (planning_number e); plan = no_plan }
+
+abbrev pub answer_of : {E : Type 0} → Result FrozenMessage E → PlanAnswer E
+answer_of (Ok p) = record { answer = Ok tt; plan = p }
+answer_of (Err e) = record { answer = Err e; plan = no_plan }
 
 -- ---- segment i of a plan that was checked, for any record and any i
 
 -- where the data of segment i begin, unless that passes a limit
-abbrev pub start_within : List SegmentHead → ℕ → ℕ → DataStart
-start_within heads i limit = cond (leb (data_before heads i) limit) (At (data_before heads i)) Past
+abbrev pub start_within : List SegmentHead → ℕ → ℕ → Option ℕ
+start_within heads i limit = cond (leb (data_before heads i) limit) (Some (data_before heads i)) None
 
 -- a record has segment i when i is below its count and the segment's data lie within the message
 abbrev pub has_head : FrozenMessage → ℕ → Bool
 has_head q i = ltb i q.count && leb i 255 && leb (data_before q.heads (suc i)) q.message_octets
 
-unfoldable pub frozen_segment_at : FrozenMessage → ℕ → PlannedSegment
-frozen_segment_at q i = cond (has_head q i) (Planned (record { head = head_at q.heads i; offset = data_before q.heads i })) NoSegment
+unfoldable pub frozen_segment_at : FrozenMessage → ℕ → Option PlannedPart
+frozen_segment_at q i = cond (has_head q i) (Some (record { head = head_at q.heads i; offset = data_before q.heads i })) None

@@ -1,15 +1,14 @@
 -- Laws of a train's heads: where the data of each begin, and the heads that a plan keeps. Assumes nothing.
-use Rattle.std.specs.Prelude.{ℕ, zero, suc, ◌+◌, ◌-◌, ◌≤◌, ◌<◌, ◌≡◌, refl, Bool, true, false, cond, ◌&&◌, List, [], ◌∷◌, ◌++◌, length, get_or, take, drop, set, replicate, leb, ltb}
-use Rattle.std.proofs.Common.{sym, ap, ap₂, ◌∙◌, ⊎_elim, append_assoc, append-nil, arith, add-zero, add-suc, length-take, length-append, take-append-drop, drop_of_length-le, get_or-take, get_or-append-add, take_all, drop-cons, leb-true, leb-false, le-leb, lt-ltb}
-use Rattle.std.proofs.lemmas.List.{length-replicate, replicate-append-replicate, set_at}
+use Rattle.std.specs.Prelude.{ℕ, zero, suc, ◌+◌, ◌-◌, ◌≤◌, ◌<◌, ◌≡◌, refl, Bool, true, false, cond, ◌&&◌, List, [], ◌++◌, length, get_or, take, drop, replicate, eqb, leb, ltb, Option, Some, None}
+use Rattle.segmentation.specs.declared.PlannedPart.{PlannedPart}
+use Rattle.std.proofs.Common.{sym, ap, ap₂, ◌∙◌, ⊎_elim, arith, add-zero, add-suc, length-take, get_or-take, get_or-append-add, take_all, ltb-true, leb-true, leb-false, le-leb, lt-ltb, eq-eqb, ne_eqb}
+use Rattle.std.specs.Option.{option_eq}
+use Rattle.std.proofs.lemmas.List.{drop-replicate, length-take-le}
 use Rattle.std.proofs.Math.ListN.{get_or-append, get_or-eq_default}
-use Rattle.std.proofs.Math.Seq.{append_snoc}
 use Rattle.std.proofs.lemmas.Bool.{lt-leb}
 use Rattle.octets.specs.Laws.{le_or_lt}
 use Rattle.tsar.specs.declared.SegmentHead.{SegmentHead}
 use Rattle.segmentation.specs.declared.FrozenMessage.{FrozenMessage}
-use Rattle.segmentation.specs.declared.PlannedSegment.TheVariants.{NoSegment, Segment as Planned}
-use Rattle.segmentation.specs.declared.DataStart.TheVariants.{At, Past}
 use Rattle.segmentation.specs.Frozen.{no_head, head_at, data_before, start_within, kept_heads, frozen_segment_at}
 
 -- ---- where data begin
@@ -40,23 +39,23 @@ before_cong heads others (suc n) e =
     ap₂ {C = ℕ} ◌+◌ (before_cong heads others n (λ i h. e i (omega arith))) (ap (λ (x : SegmentHead). x.segment_data_length) (e n (omega arith)))
 
 -- where one segment's data pass a limit, so do those of every later one
-pub start_past : (heads : List SegmentHead) (i j limit : ℕ) → i < j → limit - data_before heads i < (head_at heads i).segment_data_length → start_within heads j limit ≡ Past
+pub start_past : (heads : List SegmentHead) (i j limit : ℕ) → i < j → limit - data_before heads i < (head_at heads i).segment_data_length → start_within heads j limit ≡ None
 start_past heads i j limit h l =
     let m : limit < data_before heads j = omega (arith, before_suc heads i, before_mono heads (suc i) j h) in
     rw (lt-leb (data_before heads j) limit m)
 
 -- what a start within a limit says
-pub start_at : (heads : List SegmentHead) (i limit n : ℕ) → start_within heads i limit ≡ At n → (n ≡ data_before heads i) × (data_before heads i ≤ limit)
+pub start_at : (heads : List SegmentHead) (i limit n : ℕ) → start_within heads i limit ≡ Some n → (n ≡ data_before heads i) × (data_before heads i ≤ limit)
 start_at heads i limit n e = go (leb (data_before heads i) limit) refl e
   where
-    go : (t : Bool) → leb (data_before heads i) limit ≡ t → cond t (At (data_before heads i)) Past ≡ At n → (n ≡ data_before heads i) × (data_before heads i ≤ limit)
+    go : (t : Bool) → leb (data_before heads i) limit ≡ t → cond t (Some (data_before heads i)) None ≡ Some n → (n ≡ data_before heads i) × (data_before heads i ≤ limit)
     go true l f = (cc, leb-true (data_before heads i) limit l)
     go false l f = let z : ◌≡◌ {A = ℕ} 0 1 = cc in absurd (omega arith)
 
-pub start_none : (heads : List SegmentHead) (i limit : ℕ) → start_within heads i limit ≡ Past → limit < data_before heads i
+pub start_none : (heads : List SegmentHead) (i limit : ℕ) → start_within heads i limit ≡ None → limit < data_before heads i
 start_none heads i limit e = go (leb (data_before heads i) limit) refl e
   where
-    go : (t : Bool) → leb (data_before heads i) limit ≡ t → cond t (At (data_before heads i)) Past ≡ Past → limit < data_before heads i
+    go : (t : Bool) → leb (data_before heads i) limit ≡ t → cond t (Some (data_before heads i)) None ≡ None → limit < data_before heads i
     go true l f = let z : ◌≡◌ {A = ℕ} 0 1 = cc in absurd (omega arith)
     go false l f = leb-false (data_before heads i) limit l
 
@@ -93,52 +92,65 @@ kept_before heads count i h = before_cong (kept_heads heads count) heads i (λ j
 
 -- ---- segment i of a plan that was checked
 
--- it has none whose data pass the message
-pub segment_none : (q : FrozenMessage) (i : ℕ) → q.message_octets < data_before q.heads (suc i) → frozen_segment_at q i ≡ NoSegment
+-- it has none where the number is none of a segment, or the data pass the message
+pub segment_none : (q : FrozenMessage) (i : ℕ) → ((i < q.count) × (i ≤ 255) × (data_before q.heads (suc i) ≤ q.message_octets) → ⊥) → frozen_segment_at q i ≡ None
 unfolding frozen_segment_at
-segment_none q i h = rw (lt-leb (data_before q.heads (suc i)) q.message_octets h) (go (ltb i q.count) (leb i 255))
+segment_none q i n = go (ltb i q.count) (leb i 255) (leb (data_before q.heads (suc i)) q.message_octets) refl refl refl
   where
-    go : (a b : Bool) → cond (a && b && false) (Planned (record { head = head_at q.heads i; offset = data_before q.heads i })) NoSegment ≡ NoSegment
-    go true true = refl
-    go true false = refl
-    go false b = refl
+    go : (a b d : Bool) → ltb i q.count ≡ a → leb i 255 ≡ b → leb (data_before q.heads (suc i)) q.message_octets ≡ d → cond {A = Option PlannedPart} (a && b && d) (Some (record { head = head_at q.heads i; offset = data_before q.heads i })) None ≡ None
+    go true true true e f g = absurd (n (ltb-true _ _ e, leb-true _ _ f, leb-true _ _ g))
+    go true true false e f g = refl
+    go true false d e f g = refl
+    go false b d e f g = refl
 
 -- and has every other below its count
-pub segment_some : (q : FrozenMessage) (i : ℕ) → i < q.count → i ≤ 255 → data_before q.heads (suc i) ≤ q.message_octets → frozen_segment_at q i ≡ Planned (record { head = head_at q.heads i; offset = data_before q.heads i })
+pub segment_some : (q : FrozenMessage) (i : ℕ) → i < q.count → i ≤ 255 → data_before q.heads (suc i) ≤ q.message_octets → frozen_segment_at q i ≡ Some (record { head = head_at q.heads i; offset = data_before q.heads i })
 unfolding frozen_segment_at
 segment_some q i h l m = simp (lt-ltb i q.count h, le-leb i 255 l, le-leb (data_before q.heads (suc i)) q.message_octets m)
 
--- ---- the heads as the code empties them, one by one
+-- ---- the first heads of a list alone
 
--- the heads from the count up to i emptied
-unfoldable pub cleared_to : SegmentHead → ℕ → ℕ → List SegmentHead → List SegmentHead
-cleared_to empty count i heads = take count heads ++ replicate (i - count) empty ++ drop i heads
+pub head_front : (heads : List SegmentHead) (n i : ℕ) → i < n → head_at (take n heads) i ≡ head_at heads i
+head_front heads n i h = get_or-take n heads i no_head h
 
-pub cleared_none : (empty : SegmentHead) (count : ℕ) (heads : List SegmentHead) → heads ≡ cleared_to empty count count heads
-unfolding cleared_to
-cleared_none empty count heads =
-    let e : count - count ≡ 0 = omega arith in
-    sym (ap (λ (k : ℕ). take count heads ++ replicate k empty ++ drop count heads) e
-    ∙ ap (λ (l : List SegmentHead). l ++ drop count heads) (append-nil (take count heads)) ∙ take-append-drop count heads)
+pub before_front : (heads : List SegmentHead) (n i : ℕ) → i ≤ n → data_before (take n heads) i ≡ data_before heads i
+before_front heads n i h = before_cong (take n heads) heads i (λ j l. head_front heads n j (omega arith))
 
-pub cleared_suc : (empty : SegmentHead) (count i : ℕ) (heads : List SegmentHead) → count ≤ i → i < length heads → set (cleared_to empty count i heads) i empty ≡ cleared_to empty count (suc i) heads
-unfolding cleared_to
-cleared_suc empty count i heads h l =
-    let front : List SegmentHead = take count heads ++ replicate (i - count) empty in
-    let size : length front ≡ i = simp (length-append, length-take, length-replicate) (omega arith) in
-    let one : replicate (i - count) empty ++ (empty ∷ []) ≡ replicate (i - count + 1) empty = replicate-append-replicate (i - count) 1 empty in
-    let more : i - count + 1 ≡ suc i - count = omega arith in
-    ap (λ (r : List SegmentHead). set (front ++ r) i empty) (drop-cons heads i no_head l)
-    ∙ set_at front (head_at heads i) (drop (suc i) heads) empty i size
-    ∙ sym (append_snoc front empty (drop (suc i) heads))
-    ∙ ap (λ (r : List SegmentHead). r ++ drop (suc i) heads) (append_assoc (take count heads) (replicate (i - count) empty) (empty ∷ []) ∙ ap (λ (r : List SegmentHead). take count heads ++ r) (one ∙ ap (λ (k : ℕ). replicate k empty) more))
+-- all of them: the data behind them begin where those of the list do
+pub before_all_front : (heads : List SegmentHead) (n : ℕ) → n ≤ length heads → data_before (take n heads) (length (take n heads)) ≡ data_before heads n
+before_all_front heads n h = ap (data_before (take n heads)) (length-take-le n heads h) ∙ before_front heads n n (omega arith)
 
-pub cleared_all : (empty : SegmentHead) (count : ℕ) (heads : List SegmentHead) → length heads ≡ 256 → empty ≡ no_head → cleared_to empty count 256 heads ≡ kept_heads heads count
-unfolding cleared_to kept_heads
-cleared_all empty count heads h e =
-    ap (λ (r : List SegmentHead). take count heads ++ replicate (256 - count) empty ++ r) (drop_of_length-le heads {i = 256} (omega arith))
-    ∙ append-nil (take count heads ++ replicate (256 - count) empty)
-    ∙ ap (λ (x : SegmentHead). take count heads ++ replicate (256 - count) x) e
+-- whether the data of n heads end at a limit
+pub ends_at : (heads : List SegmentHead) (n limit : ℕ) → option_eq eqb (start_within heads n limit) (Some limit) ≡ eqb limit (data_before heads n)
+ends_at heads n limit = go (leb (data_before heads n) limit) refl
+  where
+    swap : (a b : ℕ) → eqb a b ≡ eqb b a
+    swap a b =
+        ⊎_elim
+        (λ (l : a ≤ b).
+        ⊎_elim (λ (m : b ≤ a). eq-eqb a b (omega arith) ∙ sym (eq-eqb b a (omega arith)))
+        (λ (m : a < b). ne_eqb a b (λ e. omega arith) ∙ sym (ne_eqb b a (λ e. omega arith)))
+        (le_or_lt b a))
+        (λ (l : b < a). ne_eqb a b (λ e. omega arith) ∙ sym (ne_eqb b a (λ e. omega arith)))
+        (le_or_lt a b)
+
+    go : (t : Bool) → leb (data_before heads n) limit ≡ t → option_eq eqb (cond t (Some (data_before heads n)) None) (Some limit) ≡ eqb limit (data_before heads n)
+    go true e = swap (data_before heads n) limit
+    go false e = let l = leb-false (data_before heads n) limit e in sym (ne_eqb limit (data_before heads n) (λ f. omega arith))
+
+-- ---- the heads of a plan as the code makes them
+
+pub kept_of_front : (heads : List SegmentHead) (n : ℕ) → n ≤ length heads → kept_heads (take n heads) (length (take n heads)) ≡ kept_heads heads n
+unfolding kept_heads
+kept_of_front heads n h =
+    let e : length (take n heads) ≡ n = length-take-le n heads h in
+    ap₂ {C = List SegmentHead} (λ (a : List SegmentHead) (k : ℕ). a ++ replicate (256 - k) no_head) (take_all (length (take n heads)) (take n heads) (omega arith)) e
+
+-- heads in front of empty ones
+pub kept_front : (heads : List SegmentHead) → heads ++ drop (length heads) (replicate 256 no_head) ≡ kept_heads heads (length heads)
+unfolding kept_heads
+kept_front heads =
+    ap₂ {C = List SegmentHead} (λ (a b : List SegmentHead). a ++ b) (sym (take_all (length heads) heads (omega arith))) (drop-replicate (length heads) 256 no_head)
 
 -- 256 empty heads are those of no segments
 pub none_kept : (empty : SegmentHead) → empty ≡ no_head → replicate 256 empty ≡ kept_heads [] 0

@@ -1,6 +1,6 @@
 -- What plan_message answers: document 01's formulas, 'Port order' 2, and its refusals in order; what the even planner answers: document 02, 2026-02;
 -- and segment i of a plan of either.
-use Rattle.std.specs.Prelude.{ℕ, zero, suc, ◌+◌, ◌-◌, ◌*◌, ◌/◌, ◌≤◌, ◌<◌, min, List, [], ◌∷◌, ◌++◌, map, Bool, true, false, cond, ◌&&◌, take, drop, eqb, leb, ltb}
+use Rattle.std.specs.Prelude.{ℕ, zero, suc, ◌+◌, ◌-◌, ◌*◌, ◌/◌, ◌≤◌, ◌<◌, min, List, [], ◌∷◌, ◌++◌, map, Bool, true, false, cond, ◌&&◌, take, drop, eqb, leb, ltb, Option, Result, Some, None, Ok, Err}
 use Rattle.tsar.specs.Rows.{Refusal, first_of}
 pub use Rattle.tsar.specs.Kinds.{prohibited, is_exceptions}
 use Rattle.tsar.specs.Layout.{WholeSegment, whole}
@@ -8,18 +8,14 @@ use Rattle.tsar.specs.Writing.{codec_rows}
 use Rattle.tsar.specs.declared.Compression.TheVariants as compression
 use Rattle.tsar.specs.declared.AcknowledgmentWindow.{AcknowledgmentWindow}
 use Rattle.tsar.specs.declared.CrcStatus.TheVariants as status
-use Rattle.tsar.specs.declared.MessageLength.{MessageLength}
-use Rattle.tsar.specs.declared.MessageLength.TheVariants as len
-use Rattle.tsar.specs.declared.Services.{Services}
-use Rattle.tsar.specs.declared.Services.TheVariants as optional
-use Rattle.tsar.specs.declared.MessageCrc.TheVariants as crc
+use Rattle.tsar.specs.declared.OptionalServices.{OptionalServices}
+use Rattle.segmentation.specs.declared.PlannedPart.{PlannedPart}
+use Rattle.segmentation.specs.declared.PlanningError.{PlanningError}
 use Rattle.tsar.specs.declared.SegmentKind.{SegmentKind}
 use Rattle.tsar.specs.declared.SegmentKind.TheVariants as kind'
 use Rattle.tsar.specs.declared.Segment.{Segment}
 use Rattle.tsar.specs.declared.SegmentHead.{SegmentHead}
 use Rattle.segmentation.specs.declared.SegmentedMessage.{SegmentedMessage}
-use Rattle.segmentation.specs.declared.PlannedSegment.{PlannedSegment}
-use Rattle.segmentation.specs.declared.PlannedSegment.TheVariants.{NoSegment, Segment as Planned}
 use Rattle.segmentation.specs.declared.MessagePlan.{MessagePlan}
 use Rattle.segmentation.specs.declared.MessagePlan.TheVariants as plan'
 use Rattle.segmentation.specs.Numbers.{planning_number}
@@ -69,18 +65,18 @@ plan_of n budget transaction w =
       states_length = states_length_of n budget (prohibited w);
     }
 
-abbrev pub services_for : AcknowledgmentWindow → Bool → Services
-services_for w true = optional.Absent
-services_for w false = optional.SpelledOut (record { compression = compression.None; acknowledgment_window = w; crc_status = status.None })
+abbrev pub services_for : AcknowledgmentWindow → Bool → Option OptionalServices
+services_for w true = None
+services_for w false = Some (record { compression = compression.None; acknowledgment_window = w; crc_status = status.None })
 
 -- the services of a plan's Begin
-abbrev pub planned_services : AcknowledgmentWindow → Services
+abbrev pub planned_services : AcknowledgmentWindow → Option OptionalServices
 planned_services w = services_for w (prohibited w)
 
 -- Begin without data and length, which the codec is asked about
 abbrev pub bare_begin : ℕ → AcknowledgmentWindow → Segment
 bare_begin transaction w =
-    record { transaction_id = transaction; sequence_number = 0; kind = kind'.Begin len.Unstated (planned_services w) }
+    record { transaction_id = transaction; sequence_number = 0; kind = kind'.Begin None (planned_services w) }
 
 -- what planning answers
 pub data Planning : Type 0 where
@@ -140,11 +136,16 @@ spread (segmented p) = segmented (evened p)
 abbrev pub even_message : ℕ → ℕ → ℕ → AcknowledgmentWindow → ℕ → ℕ → Planning
 even_message n budget transaction w version ceiling = spread (plan_message n budget transaction w version ceiling)
 
+-- what the plan of a message that is longer than the budget says, or its refusal
+abbrev pub cut_by : Result SegmentedMessage PlanningError → Planning
+cut_by (Ok p) = segmented p
+cut_by (Err e) = refused (planning_number e)
+
 -- what a planner's answer says
-abbrev pub planned_by : MessagePlan → Planning
-planned_by plan'.Unsegmented = unsegmented
-planned_by (plan'.Segmented p) = segmented p
-planned_by (plan'.Refused e) = refused (planning_number e)
+abbrev pub planned_by : Result MessagePlan PlanningError → Planning
+planned_by (Ok plan'.Unsegmented) = unsegmented
+planned_by (Ok (plan'.Segmented p)) = segmented p
+planned_by (Err e) = refused (planning_number e)
 
 -- ---- segment i of a plan of either planner, for any record and any i
 
@@ -167,12 +168,12 @@ abbrev pub part_length : SegmentedMessage → ℕ → ℕ
 part_length p i = min (part_capacity p i) (p.message_octets - part_start p i)
 
 -- the length that Begin states
-abbrev pub planned_length : SegmentedMessage → MessageLength
-planned_length p = cond (p.states_length && leb p.message_octets 4095) (len.Stated p.message_octets) len.Unstated
+abbrev pub planned_length : SegmentedMessage → Option ℕ
+planned_length p = cond (p.states_length && leb p.message_octets 4095) (Some p.message_octets) None
 
 abbrev pub planned_kind : SegmentedMessage → ℕ → SegmentKind
 planned_kind p zero = kind'.Begin (planned_length p) (planned_services p.acknowledgment_window)
-planned_kind p (suc i) = cond (eqb (suc (suc i)) p.count) (kind'.End len.Unstated crc.Absent) (kind'.Continue len.Unstated)
+planned_kind p (suc i) = cond (eqb (suc (suc i)) p.count) (kind'.End None None) (kind'.Continue None)
 
 abbrev pub planned_head : SegmentedMessage → ℕ → SegmentHead
 planned_head p i =
@@ -197,12 +198,8 @@ pub record Sized (p : SegmentedMessage) : Type 0 where
   pub begin_sized : p.begin_octets ≤ 255
   pub later_sized : p.later_capacity ≤ 255
 
-pub record SegmentSized (p : SegmentedMessage) (i : ℕ) : Type 0 where
-  pub numbered : i ≤ 255
-  pub sized : Sized p
-
-unfoldable pub segment_at : SegmentedMessage → ℕ → PlannedSegment
-segment_at p i = cond (has_segment p i) (Planned (record { head = planned_head p i; offset = part_start p i })) NoSegment
+unfoldable pub segment_at : SegmentedMessage → ℕ → Option PlannedPart
+segment_at p i = cond (has_segment p i) (Some (record { head = planned_head p i; offset = part_start p i })) None
 
 -- segment i of a plan of a message, with its data
 abbrev pub planned_whole : SegmentedMessage → List ℕ → ℕ → WholeSegment

@@ -1,6 +1,10 @@
 // Planning a message's segments and checking a frozen plan: l3/tsar/segmentation.rs of the source. The planners are in plan, the check in frozen.
 #![tactic(auto)]
 
+ghost use Rattle.std.specs.Prelude.{◌≡◌};
+ghost use Rattle.segmentation.specs.declared.PlanningError.TheVariants.{Codec};
+ghost use Rattle.segmentation.specs.Frozen.{answer_of};
+
 use tsar::{AcknowledgmentWindow, Error, SegmentHead};
 
 pub mod frozen;
@@ -18,7 +22,7 @@ const MAX_LENGTH_IE_MESSAGE_OCTETS: usize = 4095;
 
 // A plan of either planner: capacities from which every segment follows, and no copy of the message. Where the capacities leave octets over, as
 // many later segments, the first ones, have one octet more than the later capacity.
-#[derive(Clone, Copy)]
+#[derive(Clone, Copy, Debug, PartialEq, Eq)]
 pub struct SegmentedMessage {
     pub message_octets: usize,
     pub payload_budget_octets: usize,
@@ -31,20 +35,15 @@ pub struct SegmentedMessage {
 }
 
 // Segment i of a plan: its head, and where its data begin in the message.
-#[derive(Clone, Copy)]
+#[derive(Clone, Copy, Debug, PartialEq, Eq)]
 pub struct PlannedPart {
     pub head: SegmentHead,
     pub offset: usize,
 }
 
-#[derive(Clone, Copy)]
-pub enum PlannedSegment {
-    NoSegment,
-    Segment(PlannedPart),
-}
-
-// A plan that passed the frozen check: the heads, those at and past the count empty; the data stay with the caller.
-#[derive(Clone, Copy)]
+// A plan that passed the frozen check: the heads, those at and past the count empty, in an array since there is no heap; the data stay with the
+// caller.
+#[derive(Clone, Copy, Debug, PartialEq, Eq)]
 pub struct FrozenMessage {
     pub heads: [SegmentHead; 256],
     pub count: usize,
@@ -55,7 +54,7 @@ pub struct FrozenMessage {
 
 // JoinedLength is 24, which the source has not: the joined data are not as long as the heads say. Nor has it ExceptionsWindow, 25: no planner makes a
 // plan under this window.
-#[derive(Clone, Copy)]
+#[derive(Clone, Copy, Debug, PartialEq, Eq)]
 pub enum PlanningError {
     PayloadBudget,
     HeaderCapacity,
@@ -66,30 +65,44 @@ pub enum PlanningError {
     Codec(Error),
 }
 
-// What a planner answers.
-#[derive(Clone, Copy)]
+impl From<Error> for PlanningError {
+    ghost from_gives = { λ e p. p ≡ Codec e };
+
+    fn from(error: Error) -> PlanningError {
+        PlanningError::Codec(error)
+    }
+}
+
+// What a planner answers. The source's enum: None would not say that the message goes as it is.
+#[derive(Clone, Copy, Debug, PartialEq, Eq)]
 pub enum MessagePlan {
     Unsegmented,
     Segmented(SegmentedMessage),
-    Refused(PlanningError),
 }
 
-#[derive(Clone, Copy)]
-pub enum FrozenAnswer {
-    Accepted,
-    Refused(PlanningError),
-}
-
-// What try_from_frozen gives: the answer, and the plan beside it; refused, a plan of no segments.
-#[derive(Clone, Copy)]
-pub struct FrozenCheck {
-    pub answer: FrozenAnswer,
+// An answer, and the plan beside it; refused, a plan of no segments (README, 'What the papers leave open').
+#[derive(Clone, Copy, Debug, PartialEq, Eq)]
+pub struct PlanAnswer<E> {
+    pub answer: Result<(), E>,
     pub plan: FrozenMessage,
 }
 
-// Where a segment's data begin in the joined data, unless that lies past the number of octets there are.
-#[derive(Clone, Copy)]
-pub enum DataStart {
-    At(usize),
-    Past,
+impl<E> From<Result<FrozenMessage, E>> for PlanAnswer<E> {
+    ghost from_gives = { λ r a. a ≡ answer_of r };
+
+    fn from(checked: Result<FrozenMessage, E>) -> PlanAnswer<E> {
+        match checked {
+            Ok(plan) => PlanAnswer {
+                answer: Ok(()),
+                plan,
+            },
+            Err(error) => PlanAnswer {
+                answer: Err(error),
+                plan: frozen::no_plan(),
+            },
+        }
+    }
 }
+
+// What try_from_frozen gives.
+pub type FrozenCheck = PlanAnswer<PlanningError>;

@@ -1,149 +1,132 @@
 // Planning: plan_message, plan_even, and the segments of a plan.
-ghost use Rattle.std.specs.Prelude.{◌≡◌, min, ◌≤◌, ◌<◌, length};
+ghost use Rattle.std.specs.Prelude.{◌≡◌, ◌≤◌, ◌<◌, IfSome, IsNone, None, length};
 ghost use Rattle.tsar.specs.Rows.{first_of};
-ghost use Rattle.segmentation.specs.Plan.{prohibited, is_exceptions, bare_octets, states_length_of, begin_header, begin_data, rounded_up, planned_services, plan_of, segmented, size_rows, plan_message, share_of, evened, even_message, planned_by, part_start, part_capacity, part_length, planned_length, planned_kind, longer, Sized, SegmentSized, segment_at};
+ghost use Rattle.segmentation.specs.Plan.{prohibited, is_exceptions, bare_octets, states_length_of, begin_header, begin_data, planned_services, bare_begin, plan_of, segmented, size_rows, plan_message, share_of, evened, even_message, cut_by, planned_by, part_start, part_capacity, part_length, planned_length, planned_kind, planned_head, longer, Sized, segment_at};
 
 use crate::{
     FIRST_SEQUENCE_NUMBER, MAX_LENGTH_IE_MESSAGE_OCTETS, MAX_SEGMENT_DATA_OCTETS, MAX_SEGMENTS,
-    MessagePlan, OPTIONAL_WORD_OCTETS, PlannedPart, PlannedSegment, PlanningError,
-    SegmentedMessage,
+    MessagePlan, OPTIONAL_WORD_OCTETS, PlannedPart, PlanningError, SegmentedMessage,
 };
 use tsar::{
-    AcknowledgmentWindow, Compression, CrcStatus, HEADER_OCTETS, MessageCrc, MessageLength,
-    OptionalServices, Segment, SegmentHead, SegmentKind, Services, Validated,
+    AcknowledgmentWindow, Compression, CrcStatus, HEADER_OCTETS, OptionalServices, Segment,
+    SegmentHead, SegmentKind,
 };
-
-// The smaller of two numbers.
-fn smaller(a: usize, b: usize) -> usize
-    ensures { result ≡ min a b }
-{
-    if a <= b { a } else { b }
-}
-
-// n / d, rounded up.
-fn div_ceil(n: usize, d: usize) -> usize
-    requires { (0 < n) × (0 < d) }
-    ensures { result ≡ rounded_up n d }
-{
-    (n - 1) / d + 1
-}
 
 fn is_prohibited(window: AcknowledgmentWindow) -> bool
     ensures { result ≡ prohibited window }
 {
-    match window {
-        AcknowledgmentWindow::Prohibited => true,
-        AcknowledgmentWindow::Every4 => false,
-        AcknowledgmentWindow::Every8 => false,
-        AcknowledgmentWindow::Every16 => false,
-        AcknowledgmentWindow::Last => false,
-        AcknowledgmentWindow::Exceptions => false,
-    }
+    window == AcknowledgmentWindow::Prohibited
 }
 
 fn is_exceptions(window: AcknowledgmentWindow) -> bool
     ensures { result ≡ is_exceptions window }
 {
-    match window {
-        AcknowledgmentWindow::Prohibited => false,
-        AcknowledgmentWindow::Every4 => false,
-        AcknowledgmentWindow::Every8 => false,
-        AcknowledgmentWindow::Every16 => false,
-        AcknowledgmentWindow::Last => false,
-        AcknowledgmentWindow::Exceptions => true,
-    }
+    window == AcknowledgmentWindow::Exceptions
 }
 
 // The services that Begin carries unless the window is Prohibited.
-fn planned_services(acknowledgment_window: AcknowledgmentWindow) -> Services
+fn planned_services(acknowledgment_window: AcknowledgmentWindow) -> Option<OptionalServices>
     ensures { result ≡ planned_services acknowledgment_window }
 {
     if is_prohibited(acknowledgment_window) {
-        return Services::Absent;
+        return None;
     }
-    Services::SpelledOut(OptionalServices {
+    Some(OptionalServices {
         compression: Compression::None,
         acknowledgment_window,
         crc_status: CrcStatus::None,
     })
 }
 
-// The octets of Begin without data and length.
-fn minimum_begin_octets(prohibited: bool) -> usize
-    ensures { result ≡ bare_octets prohibited }
-{
-    if prohibited {
-        return HEADER_OCTETS;
-    }
-    HEADER_OCTETS + OPTIONAL_WORD_OCTETS
-}
-
-// Whether Begin states the length.
-fn states_length(message_octets: usize, payload_budget_octets: usize, prohibited: bool) -> bool
-    ensures { result ≡ states_length_of message_octets payload_budget_octets prohibited }
-{
-    if MAX_LENGTH_IE_MESSAGE_OCTETS < message_octets {
-        return false;
-    }
-    minimum_begin_octets(prohibited) + OPTIONAL_WORD_OCTETS < payload_budget_octets
-}
-
-// The octets of Begin beside its data.
-fn begin_header(message_octets: usize, payload_budget_octets: usize, prohibited: bool) -> usize
-    ensures { result ≡ begin_header message_octets payload_budget_octets prohibited }
-{
-    if states_length(message_octets, payload_budget_octets, prohibited) {
-        return minimum_begin_octets(prohibited) + OPTIONAL_WORD_OCTETS;
-    }
-    minimum_begin_octets(prohibited)
-}
-
-// The data of Begin, whose header the budget holds.
-fn first_capacity(message_octets: usize, payload_budget_octets: usize, prohibited: bool) -> usize
-    requires { bare_octets prohibited ≤ payload_budget_octets }
-    ensures { result ≡ begin_data message_octets payload_budget_octets prohibited }
-{
-    let header = begin_header(message_octets, payload_budget_octets, prohibited);
-    smaller(MAX_SEGMENT_DATA_OCTETS, payload_budget_octets - header)
-}
-
-// The plan of a message that the budget doesn't hold, from the test for HeaderCapacity on.
-fn plan_segments(
+// What is planned: a message of some length, within a budget, in a transaction under a window.
+#[derive(Clone, Copy)]
+struct Request {
     message_octets: usize,
     payload_budget_octets: usize,
     transaction_id: u8,
     acknowledgment_window: AcknowledgmentWindow,
-) -> MessagePlan
-    requires { payload_budget_octets < message_octets }
-    ensures { planned_by result ≡ first_of (size_rows message_octets payload_budget_octets acknowledgment_window) (segmented (plan_of message_octets payload_budget_octets transaction_id acknowledgment_window)) }
-{
-    let prohibited = is_prohibited(acknowledgment_window);
-    if payload_budget_octets < minimum_begin_octets(prohibited) {
-        return MessagePlan::Refused(PlanningError::HeaderCapacity);
+}
+
+impl Request {
+    // Begin without data and length.
+    fn bare_begin(self) -> Segment
+        ensures { result ≡ bare_begin self.transaction_id self.acknowledgment_window }
+    {
+        Segment {
+            transaction_id: self.transaction_id,
+            sequence_number: FIRST_SEQUENCE_NUMBER,
+            kind: SegmentKind::Begin {
+                message_length: None,
+                services: planned_services(self.acknowledgment_window),
+            },
+        }
     }
-    if payload_budget_octets <= HEADER_OCTETS {
-        return MessagePlan::Refused(PlanningError::HeaderCapacity);
+
+    // Its octets.
+    fn minimum_begin_octets(self) -> usize
+        ensures { result ≡ bare_octets (prohibited self.acknowledgment_window) }
+    {
+        if is_prohibited(self.acknowledgment_window) {
+            return HEADER_OCTETS;
+        }
+        HEADER_OCTETS + OPTIONAL_WORD_OCTETS
     }
-    let states_length = states_length(message_octets, payload_budget_octets, prohibited);
-    let begin_octets = first_capacity(message_octets, payload_budget_octets, prohibited);
-    let later_capacity = smaller(
-        MAX_SEGMENT_DATA_OCTETS,
-        payload_budget_octets - HEADER_OCTETS,
-    );
-    let following = div_ceil(message_octets - begin_octets, later_capacity);
-    if MAX_SEGMENTS <= following {
-        return MessagePlan::Refused(PlanningError::SegmentCount);
+
+    // Whether Begin states the length.
+    fn states_length(self) -> bool
+        ensures { result ≡ states_length_of self.message_octets self.payload_budget_octets (prohibited self.acknowledgment_window) }
+    {
+        self.message_octets <= MAX_LENGTH_IE_MESSAGE_OCTETS
+            && self.minimum_begin_octets() + OPTIONAL_WORD_OCTETS < self.payload_budget_octets
     }
-    MessagePlan::Segmented(SegmentedMessage {
-        message_octets,
-        payload_budget_octets,
-        transaction_id,
-        acknowledgment_window,
-        begin_octets,
-        later_capacity,
-        count: 1 + following,
-        states_length,
-    })
+
+    // The octets of Begin beside its data.
+    fn begin_header(self) -> usize
+        ensures { result ≡ begin_header self.message_octets self.payload_budget_octets (prohibited self.acknowledgment_window) }
+    {
+        if self.states_length() {
+            return self.minimum_begin_octets() + OPTIONAL_WORD_OCTETS;
+        }
+        self.minimum_begin_octets()
+    }
+
+    // The data of Begin, whose header the budget holds.
+    fn first_capacity(self) -> usize
+        requires { bare_octets (prohibited self.acknowledgment_window) ≤ self.payload_budget_octets }
+        ensures { result ≡ begin_data self.message_octets self.payload_budget_octets (prohibited self.acknowledgment_window) }
+    {
+        MAX_SEGMENT_DATA_OCTETS.min(self.payload_budget_octets - self.begin_header())
+    }
+
+    // The plan of a message that the budget doesn't hold, from the test for HeaderCapacity on.
+    fn plan(self) -> Result<SegmentedMessage, PlanningError>
+        requires { self.payload_budget_octets < self.message_octets }
+        ensures { cut_by result ≡ first_of (size_rows self.message_octets self.payload_budget_octets self.acknowledgment_window) (segmented (plan_of self.message_octets self.payload_budget_octets self.transaction_id self.acknowledgment_window)) }
+    {
+        if self.payload_budget_octets < self.minimum_begin_octets()
+            || self.payload_budget_octets <= HEADER_OCTETS
+        {
+            return Err(PlanningError::HeaderCapacity);
+        }
+        let begin_octets = self.first_capacity();
+        let later_capacity = MAX_SEGMENT_DATA_OCTETS.min(
+            self.payload_budget_octets - HEADER_OCTETS,
+        );
+        let following = (self.message_octets - begin_octets).div_ceil(later_capacity);
+        if MAX_SEGMENTS <= following {
+            return Err(PlanningError::SegmentCount);
+        }
+        Ok(SegmentedMessage {
+            message_octets: self.message_octets,
+            payload_budget_octets: self.payload_budget_octets,
+            transaction_id: self.transaction_id,
+            acknowledgment_window: self.acknowledgment_window,
+            begin_octets,
+            later_capacity,
+            count: 1 + following,
+            states_length: self.states_length(),
+        })
+    }
 }
 
 // Plans the segments of a message of any length. The ceiling is the source's MAX_DATA_PAYLOAD_OCTETS.
@@ -154,36 +137,26 @@ pub fn plan_message(
     acknowledgment_window: AcknowledgmentWindow,
     version: u8,
     ceiling: usize,
-) -> MessagePlan
+) -> Result<MessagePlan, PlanningError>
     ensures { planned_by result ≡ plan_message (length message.now) payload_budget_octets transaction_id acknowledgment_window version ceiling }
 {
-    let message_octets = message.len();
+    let request = Request {
+        message_octets: message.len(),
+        payload_budget_octets,
+        transaction_id,
+        acknowledgment_window,
+    };
     if ceiling < payload_budget_octets {
-        return MessagePlan::Refused(PlanningError::PayloadBudget);
+        return Err(PlanningError::PayloadBudget);
     }
-    if message_octets <= payload_budget_octets {
-        return MessagePlan::Unsegmented;
+    if request.message_octets <= payload_budget_octets {
+        return Ok(MessagePlan::Unsegmented);
     }
     if is_exceptions(acknowledgment_window) {
-        return MessagePlan::Refused(PlanningError::ExceptionsWindow);
+        return Err(PlanningError::ExceptionsWindow);
     }
-    let begin = Segment {
-        transaction_id,
-        sequence_number: FIRST_SEQUENCE_NUMBER,
-        kind: SegmentKind::Begin {
-            message_length: MessageLength::Unstated,
-            services: planned_services(acknowledgment_window),
-        },
-    };
-    match begin.validate(0, version) {
-        Validated::Refused(e) => MessagePlan::Refused(PlanningError::Codec(e)),
-        Validated::Valid => plan_segments(
-            message_octets,
-            payload_budget_octets,
-            transaction_id,
-            acknowledgment_window,
-        ),
-    }
+    request.bare_begin().validate(0, version)?;
+    Ok(MessagePlan::Segmented(request.plan()?))
 }
 
 // The plan of plan_message with the octets behind Begin's spread evenly over the later segments, the longer ones first.
@@ -194,20 +167,20 @@ pub fn plan_even(
     acknowledgment_window: AcknowledgmentWindow,
     version: u8,
     ceiling: usize,
-) -> MessagePlan
+) -> Result<MessagePlan, PlanningError>
     ensures { planned_by result ≡ even_message (length message.now) payload_budget_octets transaction_id acknowledgment_window version ceiling }
 {
-    match plan_message(
+    let plan = plan_message(
         message,
         payload_budget_octets,
         transaction_id,
         acknowledgment_window,
         version,
         ceiling,
-    ) {
-        MessagePlan::Unsegmented => MessagePlan::Unsegmented,
-        MessagePlan::Refused(e) => MessagePlan::Refused(e),
-        MessagePlan::Segmented(p) => MessagePlan::Segmented(p.evened()),
+    )?;
+    match plan {
+        MessagePlan::Unsegmented => Ok(plan),
+        MessagePlan::Segmented(p) => Ok(MessagePlan::Segmented(p.evened())),
     }
 }
 
@@ -216,29 +189,18 @@ impl SegmentedMessage {
     fn share(self) -> usize
         ensures { result ≡ share_of self }
     {
-        if self.count <= 1 {
-            return 0;
-        }
-        if self.message_octets <= self.begin_octets {
-            return 0;
-        }
-        (self.message_octets - self.begin_octets) / (self.count - 1)
+        let following = self.count.saturating_sub(1);
+        let rest = self.message_octets.saturating_sub(self.begin_octets);
+        rest.checked_div(following).unwrap_or(0)
     }
 
     // The same Begin and count, the rest spread evenly.
     pub fn evened(self) -> SegmentedMessage
         ensures { result ≡ evened self }
     {
-        let acknowledgment_window = self.acknowledgment_window;
         SegmentedMessage {
-            message_octets: self.message_octets,
-            payload_budget_octets: self.payload_budget_octets,
-            transaction_id: self.transaction_id,
-            acknowledgment_window,
-            begin_octets: self.begin_octets,
             later_capacity: self.share(),
-            count: self.count,
-            states_length: self.states_length,
+            ..self
         }
     }
 
@@ -266,125 +228,136 @@ impl SegmentedMessage {
         self.count
     }
 
+    // Segment i of any record: none past the count, where the count passes 256 or a capacity that of a segment, or where it would begin past the
+    // message.
+    pub fn segment(self, index: usize) -> Option<PlannedPart>
+        ensures { result ≡ segment_at self index }
+    {
+        let part = Part::new(self, index)?;
+        if MAX_SEGMENT_DATA_OCTETS < self.later_capacity + part.longer().min(1) {
+            return None;
+        }
+        let offset = part.start();
+        if self.message_octets < offset {
+            return None;
+        }
+        Some(PlannedPart {
+            head: part.head(),
+            offset,
+        })
+    }
+}
+
+// Segment `index` of a plan whose count and capacities are those of segments.
+#[derive(Clone, Copy)]
+struct Part {
+    plan: SegmentedMessage,
+    index: u8,
+    ghost sized: { Sized plan },
+}
+
+impl Part {
+    // None past the count, or where the count or a capacity is none of segments.
+    fn new(plan: SegmentedMessage, index: usize) -> Option<Part>
+        ensures some { IfSome result (λ p. (p.plan ≡ plan) × (p.index ≡ index) × (index < plan.count)) }
+        ensures none { IsNone result → segment_at plan index ≡ None }
+    {
+        if plan.count <= index
+            || MAX_SEGMENTS < plan.count
+            || MAX_SEGMENT_DATA_OCTETS < plan.begin_octets
+            || MAX_SEGMENT_DATA_OCTETS < plan.later_capacity
+        {
+            return None;
+        }
+        Some(Part {
+            plan,
+            index: index as u8,
+        })
+    }
+
     // How many later segments have one octet more: what the capacities leave of the message.
     fn longer(self) -> usize
-        requires { Sized self }
-        ensures { result ≡ longer self }
+        ensures { result ≡ longer self.plan }
     {
-        let held = self.begin_octets + (self.count - 1) * self.later_capacity;
-        if self.message_octets <= held {
-            return 0;
-        }
-        self.message_octets - held
+        let plan = self.plan;
+        let held = plan.begin_octets + (plan.count - 1) * plan.later_capacity;
+        plan.message_octets.saturating_sub(held)
     }
 
-    // Where the data of a segment begin in the message.
-    fn part_start(self, index: usize) -> usize
-        requires { SegmentSized self index }
-        ensures { result ≡ part_start self index }
+    // Where its data begin in the message.
+    fn start(self) -> usize
+        ensures { result ≡ part_start self.plan self.index }
     {
-        if index == 0 {
+        if self.index == 0 {
             return 0;
         }
-        let before = (index - 1) * self.later_capacity + smaller(index - 1, self.longer());
-        self.begin_octets + before
+        let before = usize::from(self.index) - 1;
+        self.plan.begin_octets + before * self.plan.later_capacity + before.min(self.longer())
     }
 
-    // How many octets a segment may have.
-    #[tactic(auto, using(crate::proofs::Parts::later_capacity))]
-    fn part_capacity(self, index: usize) -> usize
-        requires { SegmentSized self index }
-        ensures { result ≡ part_capacity self index }
+    // How many octets it may have.
+    fn capacity(self) -> usize
+        ensures { result ≡ part_capacity self.plan self.index }
     {
+        let index = usize::from(self.index);
         if index == 0 {
-            return self.begin_octets;
+            return self.plan.begin_octets;
         }
         if self.longer() < index {
-            return self.later_capacity;
+            return self.plan.later_capacity;
         }
-        self.later_capacity + 1
+        self.plan.later_capacity + 1
     }
 
     // How many it has: as far as the message goes.
-    fn part_length(self, index: usize) -> usize
-        requires { SegmentSized self index }
-        ensures { result ≡ part_length self index }
+    fn length(self) -> usize
+        ensures { result ≡ part_length self.plan self.index }
     {
-        let start = self.part_start(index);
-        if self.message_octets <= start {
-            return 0;
-        }
-        smaller(self.part_capacity(index), self.message_octets - start)
+        let left = self.plan.message_octets.saturating_sub(self.start());
+        self.capacity().min(left)
     }
 
     // The length that Begin states.
-    fn planned_length(self) -> MessageLength
-        ensures { result ≡ planned_length self }
+    fn message_length(self) -> Option<u16>
+        ensures { result ≡ planned_length self.plan }
     {
-        if !self.states_length {
-            return MessageLength::Unstated;
+        let octets = self.plan.message_octets;
+        if self.plan.states_length && octets <= MAX_LENGTH_IE_MESSAGE_OCTETS {
+            return Some(octets as u16);
         }
-        if MAX_LENGTH_IE_MESSAGE_OCTETS < self.message_octets {
-            return MessageLength::Unstated;
-        }
-        MessageLength::Stated(self.message_octets as u16)
+        None
     }
 
-    fn planned_kind(self, index: usize) -> SegmentKind
-        requires { SegmentSized self index }
-        ensures { result ≡ planned_kind self index }
+    fn kind(self) -> SegmentKind
+        ensures { result ≡ planned_kind self.plan self.index }
     {
-        if index == 0 {
-            let acknowledgment_window = self.acknowledgment_window;
+        if self.index == 0 {
             return SegmentKind::Begin {
-                message_length: self.planned_length(),
-                services: planned_services(acknowledgment_window),
+                message_length: self.message_length(),
+                services: planned_services(self.plan.acknowledgment_window),
             };
         }
-        if index + 1 == self.count {
+        if usize::from(self.index) + 1 == self.plan.count {
             return SegmentKind::End {
-                message_length: MessageLength::Unstated,
-                crc: MessageCrc::Absent,
+                message_length: None,
+                crc: None,
             };
         }
         SegmentKind::Continue {
-            message_length: MessageLength::Unstated,
+            message_length: None,
         }
     }
 
-    // Segment i of any record: none past the count, where the count passes 256 or a capacity that of a segment, or where it would begin past the
-    // message.
-    pub fn segment(self, index: usize) -> PlannedSegment
-        ensures { result ≡ segment_at self index }
+    fn head(self) -> SegmentHead
+        ensures { result ≡ planned_head self.plan self.index }
     {
-        if self.count <= index {
-            return PlannedSegment::NoSegment;
+        SegmentHead {
+            segment: Segment {
+                transaction_id: self.plan.transaction_id,
+                sequence_number: self.index,
+                kind: self.kind(),
+            },
+            segment_data_length: self.length(),
         }
-        if MAX_SEGMENTS < self.count {
-            return PlannedSegment::NoSegment;
-        }
-        if MAX_SEGMENT_DATA_OCTETS < self.begin_octets {
-            return PlannedSegment::NoSegment;
-        }
-        if MAX_SEGMENT_DATA_OCTETS < self.later_capacity {
-            return PlannedSegment::NoSegment;
-        }
-        if MAX_SEGMENT_DATA_OCTETS < self.later_capacity + smaller(1, self.longer()) {
-            return PlannedSegment::NoSegment;
-        }
-        let offset = self.part_start(index);
-        if self.message_octets < offset {
-            return PlannedSegment::NoSegment;
-        }
-        let segment = Segment {
-            transaction_id: self.transaction_id,
-            sequence_number: index as u8,
-            kind: self.planned_kind(index),
-        };
-        let head = SegmentHead {
-            segment,
-            segment_data_length: self.part_length(index),
-        };
-        PlannedSegment::Segment(PlannedPart { head, offset })
     }
 }

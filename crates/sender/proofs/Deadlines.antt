@@ -5,7 +5,7 @@ use mathlib.Core.Path.{◌≡◌, refl, sym, ap, ◌∙◌, subst}
 use mathlib.Core.List.{List, [], ◌∷◌}
 use mathlib.Core.Bool.{Bool, true, false, cond, not, ◌&&◌, ◌||◌, true≢false}
 use mathlib.Core.Logic.{◌⊎◌, inl, inr}
-use mathlib.Core.Option.{Option, none, some}
+use Rattle.std.specs.Prelude.{Option, Some, None}
 use native.Mathlib.Omega.{arith}
 use lib.Dec.{eqb, ltb}
 use borrow.Author.Tests.{le-ltb, lt-ltb}
@@ -16,11 +16,8 @@ use Rattle.tsar.specs.declared.AcknowledgmentWindow.{AcknowledgmentWindow}
 use Rattle.response.specs.declared.Response.{Response}
 use Rattle.sender.specs.declared.Reaction.{Reaction}
 use Rattle.sender.specs.declared.Reaction.TheVariants.{Completes, Marks, Resends, Fails}
-use Rattle.sender.specs.declared.Deadline.{Deadline}
-use Rattle.sender.specs.declared.Deadline.TheVariants as deadline
 use Rattle.sender.specs.declared.Completion.TheVariants.{LowerLayerAccepted}
 use Rattle.sender.specs.declared.SenderFailure.TheVariants.{LowerLayer}
-use Rattle.sender.specs.declared.Current.TheVariants as current
 use Rattle.sender.specs.declared.SenderState.{SenderState}
 use Rattle.sender.specs.declared.SenderState.TheVariants.{Complete, Failed, Cancelled}
 use Rattle.sender.specs.declared.Progress.{Progress}
@@ -57,8 +54,8 @@ is_counted (lower_failed number ticket failure k) a = false
 is_counted (receive_response r) a = false
 
 -- the deadline d is left as it was; or off, where the sender is closed or d was due
-abbrev pub DeadlineLeft : Deadline → ℕ → Progress → Type 0
-DeadlineLeft d k q = (q.deadline_monotonic_ms ≡ d) ⊎ ((q.deadline_monotonic_ms ≡ deadline.Off) × ((is_closed q.state ≡ true) ⊎ (due d k ≡ true)))
+abbrev pub DeadlineLeft : Option ℕ → ℕ → Progress → Type 0
+DeadlineLeft d k q = (q.deadline_monotonic_ms ≡ d) ⊎ ((q.deadline_monotonic_ms ≡ None) × ((is_closed q.state ≡ true) ⊎ (due d k ≡ true)))
 
 -- of a sender that is given by its step
 abbrev pub MovesNoDeadline : (Sender → Call → Step) → Type 0
@@ -67,15 +64,15 @@ MovesNoDeadline step = (s : Sender) (c : Call) → is_counted c (step s c).answe
 -- ---- advancing
 
 module _ (o : Outline) (p : Progress) (k : ℕ) where
-  abbrev d : Deadline
+  abbrev d : Option ℕ
   d = p.deadline_monotonic_ms
 
-  advanced_left : ((advanced_to o p k).deadline_monotonic_ms ≡ d) ⊎ (((advanced_to o p k).deadline_monotonic_ms ≡ deadline.Off) × (due d k ≡ true))
+  advanced_left : ((advanced_to o p k).deadline_monotonic_ms ≡ d) ⊎ (((advanced_to o p k).deadline_monotonic_ms ≡ None) × (due d k ≡ true))
   unfolding advanced
   advanced_left = go (is_closed p.state) (due d k) refl
     where
       go : (c b : Bool) → due d k ≡ b
-          → ((cond (not c && b) (fire o.count o.acknowledgment_window p k) p).deadline_monotonic_ms ≡ d) ⊎ (((cond (not c && b) (fire o.count o.acknowledgment_window p k) p).deadline_monotonic_ms ≡ deadline.Off) × (due d k ≡ true))
+          → ((cond (not c && b) (fire o.count o.acknowledgment_window p k) p).deadline_monotonic_ms ≡ d) ⊎ (((cond (not c && b) (fire o.count o.acknowledgment_window p k) p).deadline_monotonic_ms ≡ None) × (due d k ≡ true))
       go true b e = inl refl
       go false true e = inr (fire_off o.count o.acknowledgment_window p k, e)
       go false false e = inl refl
@@ -84,8 +81,8 @@ module _ (o : Outline) (p : Progress) (k : ℕ) where
   from_advanced : (q : Progress) → DeadlineLeft (advanced_to o p k).deadline_monotonic_ms k q → DeadlineLeft d k q
   from_advanced q = go advanced_left
     where
-      go : ((advanced_to o p k).deadline_monotonic_ms ≡ d) ⊎ (((advanced_to o p k).deadline_monotonic_ms ≡ deadline.Off) × (due d k ≡ true)) → DeadlineLeft (advanced_to o p k).deadline_monotonic_ms k q → DeadlineLeft d k q
-      go (inl e) l = subst (λ (x : Deadline). DeadlineLeft x k q) e l
+      go : ((advanced_to o p k).deadline_monotonic_ms ≡ d) ⊎ (((advanced_to o p k).deadline_monotonic_ms ≡ None) × (due d k ≡ true)) → DeadlineLeft (advanced_to o p k).deadline_monotonic_ms k q → DeadlineLeft d k q
+      go (inl e) l = subst (λ (x : Option ℕ). DeadlineLeft x k q) e l
       go (inr f) (inl e) = inr (e ∙ f.0, inr f.1)
       go (inr f) (inr g) = inr (g.0, inr f.1)
 
@@ -96,9 +93,9 @@ module _ (o : Outline) (p : Progress) (k : ℕ) where
 
 accepted_left : (n : ℕ) (w : AcknowledgmentWindow) (p : Progress) (k : ℕ) → DeadlineLeft p.deadline_monotonic_ms k (accepted_next n w p k)
 accepted_left n w p k =
-    let q = prepare n (offering p p.state current.Nothing p.last_ticket) k in
+    let q = prepare n (offering p p.state None p.last_ticket) k in
     either (DeadlineLeft p.deadline_monotonic_ms k) (awaits_response q.state && prohibited w) (finish q (Complete LowerLayerAccepted)) q (λ e. inr (refl, inl refl))
-    (λ e. inl (prepare_same (λ (r : Progress). r.deadline_monotonic_ms) n (offering p p.state current.Nothing p.last_ticket) k (λ s c t. refl)))
+    (λ e. inl (prepare_same (λ (r : Progress). r.deadline_monotonic_ms) n (offering p p.state None p.last_ticket) k (λ s c t. refl)))
 
 reprepared : (n : ℕ) (p : Progress) (k : ℕ) → (reprepare n p k).deadline_monotonic_ms ≡ p.deadline_monotonic_ms
 reprepared n p k =
@@ -124,10 +121,10 @@ reacted_left : (o : Outline) (p : Progress) (a : Arrival) → DeadlineLeft p.dea
 reacted_left o p a = go (react_left (reaction a.response.status) o.count p a.response a.reading)
   where
     go : DeadlineLeft p.deadline_monotonic_ms a.reading (react o.count p a.response a.reading) → DeadlineLeft p.deadline_monotonic_ms a.reading (advanced_to o (react o.count p a.response a.reading) a.reading)
-    go (inl e) = subst (λ (x : Deadline). DeadlineLeft x a.reading (advanced_to o (react o.count p a.response a.reading) a.reading)) e (advances o (react o.count p a.response a.reading) a.reading)
+    go (inl e) = subst (λ (x : Option ℕ). DeadlineLeft x a.reading (advanced_to o (react o.count p a.response a.reading) a.reading)) e (advances o (react o.count p a.response a.reading) a.reading)
     go (inr (e, inr f)) = off (advanced_left o (react o.count p a.response a.reading) a.reading)
       where
-        off : ((advanced_to o (react o.count p a.response a.reading) a.reading).deadline_monotonic_ms ≡ (react o.count p a.response a.reading).deadline_monotonic_ms) ⊎ (((advanced_to o (react o.count p a.response a.reading) a.reading).deadline_monotonic_ms ≡ deadline.Off) × (due (react o.count p a.response a.reading).deadline_monotonic_ms a.reading ≡ true)) → DeadlineLeft p.deadline_monotonic_ms a.reading (advanced_to o (react o.count p a.response a.reading) a.reading)
+        off : ((advanced_to o (react o.count p a.response a.reading) a.reading).deadline_monotonic_ms ≡ (react o.count p a.response a.reading).deadline_monotonic_ms) ⊎ (((advanced_to o (react o.count p a.response a.reading) a.reading).deadline_monotonic_ms ≡ None) × (due (react o.count p a.response a.reading).deadline_monotonic_ms a.reading ≡ true)) → DeadlineLeft p.deadline_monotonic_ms a.reading (advanced_to o (react o.count p a.response a.reading) a.reading)
         off (inl g) = inr (g ∙ e, inr f)
         off (inr g) = inr (g.0, inr f)
     go (inr (e, inl c)) =
@@ -138,8 +135,8 @@ reacted_left o p a = go (react_left (reaction a.response.status) o.count p a.res
 
 module _ (P : Progress → Type 0) (p : Progress) (same : P p) where
   past : (v : Option Refusal) (t : Turn) → P t.progress → P (or_tickets p (on_refusal v p t)).progress
-  past (some n) t h = either (λ (u : Turn). P u.progress) (ltb (2 ^ 64 - 1) p.last_ticket) (refuses (63, 0) p) (refuses n p) (λ e. same) (λ e. same)
-  past none t h = either (λ (u : Turn). P u.progress) (ltb (2 ^ 64 - 1) t.progress.last_ticket) (refuses (63, 0) p) t (λ e. same) (λ e. h)
+  past (Some n) t h = either (λ (u : Turn). P u.progress) (ltb (2 ^ 64 - 1) p.last_ticket) (refuses (63, 0) p) (refuses n p) (λ e. same) (λ e. same)
+  past None t h = either (λ (u : Turn). P u.progress) (ltb (2 ^ 64 - 1) t.progress.last_ticket) (refuses (63, 0) p) t (λ e. same) (λ e. h)
 
 submission_left : (interval : ℕ) (s : Sender) (number ticket queued observed : ℕ) → is_counted (submitted number ticket queued observed) (submitted_of interval s number ticket queued observed).answer ≡ false
     → DeadlineLeft s.progress.deadline_monotonic_ms observed (submitted_of interval s number ticket queued observed).sender.progress
@@ -150,8 +147,8 @@ submission_left interval s number ticket queued observed f = by_refusal (refusal
     P t = is_counted (submitted number ticket queued observed) t.answer ≡ false → DeadlineLeft s.progress.deadline_monotonic_ms observed t.progress
 
     counts : (v : Option Refusal) (q : Progress) → P (on_refusal v s.progress (left q))
-    counts (some n) q f = inl refl
-    counts none q f = absurd (true≢false f)
+    counts (Some n) q f = inl refl
+    counts None q f = absurd (true≢false f)
 
     submits : P (submitting interval (outline s) s.progress queued observed)
     submits =
@@ -160,8 +157,8 @@ submission_left interval s number ticket queued observed f = by_refusal (refusal
         (λ e. counts (refusal (count_rows interval (sets_deadline (outline s).count (outline s).acknowledgment_window s.progress) s.progress queued)) (advanced (outline s).count (outline s).acknowledgment_window (counted interval (outline s).count (outline s).acknowledgment_window s.progress queued) observed))
 
     by_refusal : (v : Option Refusal) → P (or_tickets s.progress (on_refusal v s.progress (submitting interval (outline s) s.progress queued observed)))
-    by_refusal (some n) = either P (ltb (2 ^ 64 - 1) s.progress.last_ticket) (refuses (63, 0) s.progress) (refuses n s.progress) (λ e f. inl refl) (λ e f. inl refl)
-    by_refusal none = either P (ltb (2 ^ 64 - 1) (submitting interval (outline s) s.progress queued observed).progress.last_ticket) (refuses (63, 0) s.progress) (submitting interval (outline s) s.progress queued observed) (λ e f. inl refl) (λ e. submits)
+    by_refusal (Some n) = either P (ltb (2 ^ 64 - 1) s.progress.last_ticket) (refuses (63, 0) s.progress) (refuses n s.progress) (λ e f. inl refl) (λ e f. inl refl)
+    by_refusal None = either P (ltb (2 ^ 64 - 1) (submitting interval (outline s) s.progress queued observed).progress.last_ticket) (refuses (63, 0) s.progress) (submitting interval (outline s) s.progress queued observed) (λ e f. inl refl) (λ e. submits)
 
 pub moves_none : (interval : ℕ) → MovesNoDeadline (step_of interval)
 unfolding advance_of advance_in cancel_of cancel_in accepted_of accepted_in lower_failed_of lower_failed_in receive_response_of receive_response_in
@@ -219,8 +216,8 @@ module _ (interval : ℕ) (s : Sender) (number ticket queued observed : ℕ) whe
       no n p e = let z : ◌≡◌ {A = ℕ} 0 1 = cc in omega arith
 
       counts : (v : Option Refusal) → refusal (count_rows interval (sets_deadline (outline s).count (outline s).acknowledgment_window s.progress) s.progress queued) ≡ v → (q : Progress) → No (on_refusal v s.progress (left q))
-      counts (some n) e q = no n s.progress
-      counts none e q = absurd (true≢false (sym (ap (λ (b : Bool). b && ltb (2 ^ 64 - 1 - interval) queued) sets ∙ lt-ltb (2 ^ 64 - 1 - interval) queued l) ∙ refusal_none (count_rows interval (sets_deadline (outline s).count (outline s).acknowledgment_window s.progress) s.progress queued) e 0))
+      counts (Some n) e q = no n s.progress
+      counts None e q = absurd (true≢false (sym (ap (λ (b : Bool). b && ltb (2 ^ 64 - 1 - interval) queued) sets ∙ lt-ltb (2 ^ 64 - 1 - interval) queued l) ∙ refusal_none (count_rows interval (sets_deadline (outline s).count (outline s).acknowledgment_window s.progress) s.progress queued) e 0))
 
       submits : No (submitting interval (outline s) s.progress queued observed)
       submits =
@@ -229,19 +226,19 @@ module _ (interval : ℕ) (s : Sender) (number ticket queued observed : ℕ) whe
           (λ e. counts (refusal (count_rows interval (sets_deadline (outline s).count (outline s).acknowledgment_window s.progress) s.progress queued)) refl (advanced (outline s).count (outline s).acknowledgment_window (counted interval (outline s).count (outline s).acknowledgment_window s.progress queued) observed))
 
       go : (v : Option Refusal) → No (or_tickets s.progress (on_refusal v s.progress (submitting interval (outline s) s.progress queued observed)))
-      go (some n) = either No (ltb (2 ^ 64 - 1) s.progress.last_ticket) (refuses (63, 0) s.progress) (refuses n s.progress) (λ e. no (63, 0) s.progress) (λ e. no n s.progress)
-      go none = either No (ltb (2 ^ 64 - 1) (submitting interval (outline s) s.progress queued observed).progress.last_ticket) (refuses (63, 0) s.progress) (submitting interval (outline s) s.progress queued observed) (λ e. no (63, 0) s.progress) (λ e. submits)
+      go (Some n) = either No (ltb (2 ^ 64 - 1) s.progress.last_ticket) (refuses (63, 0) s.progress) (refuses n s.progress) (λ e. no (63, 0) s.progress) (λ e. no n s.progress)
+      go None = either No (ltb (2 ^ 64 - 1) (submitting interval (outline s) s.progress queued observed).progress.last_ticket) (refuses (63, 0) s.progress) (submitting interval (outline s) s.progress queued observed) (λ e. no (63, 0) s.progress) (λ e. submits)
 
   -- each row whose test holds has another number than 34
   abbrev No34 : List (Bool × Refusal) → Type 0
   No34 [] = Unit {0}
   No34 (c ∷ cs) = (c.0 ≡ true → eqb c.1.0 34 ≡ false) × No34 cs
 
-  other_number : (cs : List (Bool × Refusal)) → No34 cs → (n : Refusal) → refusal cs ≡ some n → eqb n.0 34 ≡ false
+  other_number : (cs : List (Bool × Refusal)) → No34 cs → (n : Refusal) → refusal cs ≡ Some n → eqb n.0 34 ≡ false
   other_number [] h n e = absurd (let z : ◌≡◌ {A = ℕ} 0 1 = cc in omega arith)
   other_number (c ∷ cs) h n e = go c.0 refl (other_number cs h.1 n) e
     where
-      go : (b : Bool) → c.0 ≡ b → (refusal cs ≡ some n → eqb n.0 34 ≡ false) → cond b (some c.1) (refusal cs) ≡ some n → eqb n.0 34 ≡ false
+      go : (b : Bool) → c.0 ≡ b → (refusal cs ≡ Some n → eqb n.0 34 ≡ false) → cond b (Some c.1) (refusal cs) ≡ Some n → eqb n.0 34 ≡ false
       go true q ih f = let z : c.1 ≡ n = cc in ap (λ (x : Refusal). eqb x.0 34) (sym z) ∙ h.0 q
       go false q ih f = ih f
 
@@ -267,8 +264,8 @@ module _ (interval : ℕ) (s : Sender) (number ticket queued observed : ℕ) whe
       fits false = refl
 
       counts : (v : Option Refusal) → refusal (count_rows interval (sets_deadline (outline s).count (outline s).acknowledgment_window s.progress) s.progress queued) ≡ v → (q : Progress) → Other (on_refusal v s.progress (left q))
-      counts (some n) e q = other_number (count_rows interval (sets_deadline (outline s).count (outline s).acknowledgment_window s.progress) s.progress queued) ((λ t. absurd (true≢false (sym t ∙ fits (sets_deadline (outline s).count (outline s).acknowledgment_window s.progress)))), ((λ t. refl), tt)) n e
-      counts none e q = refl
+      counts (Some n) e q = other_number (count_rows interval (sets_deadline (outline s).count (outline s).acknowledgment_window s.progress) s.progress queued) ((λ t. absurd (true≢false (sym t ∙ fits (sets_deadline (outline s).count (outline s).acknowledgment_window s.progress)))), ((λ t. refl), tt)) n e
+      counts None e q = refl
 
       submits : Other (submitting interval (outline s) s.progress queued observed)
       submits =
@@ -277,7 +274,7 @@ module _ (interval : ℕ) (s : Sender) (number ticket queued observed : ℕ) whe
           (λ e. counts (refusal (count_rows interval (sets_deadline (outline s).count (outline s).acknowledgment_window s.progress) s.progress queued)) refl (advanced (outline s).count (outline s).acknowledgment_window (counted interval (outline s).count (outline s).acknowledgment_window s.progress queued) observed))
 
       go : (v : Option Refusal) → refusal (submitted_rows s.terms.number (outline s) s.progress number ticket queued observed) ≡ v → is34 (or_tickets s.progress (on_refusal v s.progress (submitting interval (outline s) s.progress queued observed))).answer ≡ false
-      go (some n) e =
+      go (Some n) e =
           let k = other_number (submitted_rows s.terms.number (outline s) s.progress number ticket queued observed) ((λ t. refl), ((λ t. refl), ((λ t. refl), ((λ t. refl), ((λ t. refl), tt))))) n e in
           either Other (ltb (2 ^ 64 - 1) s.progress.last_ticket) (refuses (63, 0) s.progress) (refuses n s.progress) (λ e. refl) (λ e. k)
-      go none e = either Other (ltb (2 ^ 64 - 1) (submitting interval (outline s) s.progress queued observed).progress.last_ticket) (refuses (63, 0) s.progress) (submitting interval (outline s) s.progress queued observed) (λ e. refl) (λ e. submits)
+      go None e = either Other (ltb (2 ^ 64 - 1) (submitting interval (outline s) s.progress queued observed).progress.last_ticket) (refuses (63, 0) s.progress) (submitting interval (outline s) s.progress queued observed) (λ e. refl) (λ e. submits)

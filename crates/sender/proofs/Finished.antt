@@ -5,7 +5,7 @@ use Prim.Native.Nat.{ℕ, zero, suc, ◌+◌, ◌-◌, ◌^◌, ◌≤◌, ◌<�
 use mathlib.Core.Path.{◌≡◌, refl, sym, ap, ◌∙◌, subst}
 use mathlib.Core.List.{List, [], ◌∷◌}
 use mathlib.Core.Bool.{Bool, true, false, cond, not, ◌&&◌, ◌||◌, true≢false}
-use mathlib.Core.Option.{Option, none}
+use Rattle.std.specs.Prelude.{Option, Some, None}
 use mathlib.Core.Logic.{⊎_elim}
 use native.Mathlib.Omega.{arith}
 use lib.ListN.{length}
@@ -15,7 +15,6 @@ use Rattle.octets.specs.Laws.{le_or_lt}
 use Rattle.words.specs.Marks.{marked, sum_below, words_of, no_marks, all_below, lowest_of}
 use Rattle.words.specs.Laws.{marked_none, marked_words_of}
 use Rattle.words.specs.Search.{all_below_all, lowest_at, lowest_none}
-use Rattle.words.specs.declared.Found.TheVariants as found
 use Rattle.words.specs.declared.Words.{Words}
 use Rattle.link.specs.Peer.{identity_refused, protocol_served}
 use Rattle.link.specs.Profile.{known_profile, sender_interval}
@@ -27,9 +26,6 @@ use Rattle.tsar.specs.declared.AcknowledgmentWindow.TheVariants as window
 use Rattle.segmentation.specs.Frozen.{Proposal, frozen_refusal, frozen_of}
 use Rattle.segmentation.specs.Accepted.{accepted_iff}
 use Rattle.segmentation.proofs.Retired.{exceptions_train, exceptions_accepted}
-use Rattle.sender.specs.declared.Deadline.{Deadline}
-use Rattle.sender.specs.declared.Deadline.TheVariants as deadline
-use Rattle.sender.specs.declared.Current.TheVariants as current
 use Rattle.sender.specs.declared.Plan.{Plan}
 use Rattle.sender.specs.declared.Terms.{Terms}
 use Rattle.sender.specs.declared.Outline.{Outline}
@@ -50,7 +46,7 @@ use Rattle.sender.proofs.Retired.{frozen_plan, frozen_made}
 
 -- ---- at the deadline
 
-none_pending : (n : ℕ) (s w : Words) → next_pending n s w ≡ found.Nothing → has_pending n s w ≡ false
+none_pending : (n : ℕ) (s w : Words) → next_pending n s w ≡ None → has_pending n s w ≡ false
 none_pending n s w e = ap not (all_below_all n (λ i. not (needs s w i)) (λ i h. go i h (needs s w i) refl))
   where
     go : (i : ℕ) → i < n → (b : Bool) → needs s w i ≡ b → not b ≡ true
@@ -66,8 +62,8 @@ unfolding advance_of advance_in advanced
 elapsed interval s k r c e a l d t =
     let o = outline s in
     let p = s.progress in
-    let none = (response_awaited o.count o.acknowledgment_window p r.standing (ap awaits_response a)).1 in
-    simp (standing_possible o p r.standing c, le-ltb k p.last_monotonic_ms l, a, d, e, none_pending o.count p.submitted p.retry none, le-ltb (2 ^ 64 - 1) p.last_ticket t)
+    let None = (response_awaited o.count o.acknowledgment_window p r.standing (ap awaits_response a)).1 in
+    simp (standing_possible o p r.standing c, le-ltb k p.last_monotonic_ms l, a, d, e, none_pending o.count p.submitted p.retry None, le-ltb (2 ^ 64 - 1) p.last_ticket t)
 
 -- ---- the marks once i segments were submitted
 
@@ -119,12 +115,12 @@ needs_is i j h = ap (λ (b : Bool). not b || marked (retried_to i) j) (submitted
     or_false false = refl
 
 -- the next one is pending, and none once all were submitted
-next_is : (n i : ℕ) → n ≤ 256 → i < n → next_pending n (submitted_to i) (retried_to i) ≡ found.At i
+next_is : (n i : ℕ) → n ≤ 256 → i < n → next_pending n (submitted_to i) (retried_to i) ≡ Some i
 next_is n i m l =
     lowest_at (needs (submitted_to i) (retried_to i)) n i
     (record { within = l; holds = needs_is i i (omega arith) ∙ ap not (le-ltb i i (omega arith)); below = λ j h. needs_is i j (omega arith) ∙ ap not (lt-ltb j i h) })
 
-next_none : (n : ℕ) → n ≤ 256 → next_pending n (submitted_to n) (retried_to n) ≡ found.Nothing
+next_none : (n : ℕ) → n ≤ 256 → next_pending n (submitted_to n) (retried_to n) ≡ None
 next_none n m = lowest_none (needs (submitted_to n) (retried_to n)) n (λ j h. needs_is n j (omega arith) ∙ ap not (lt-ltb j n h))
 
 -- ---- one segment
@@ -136,16 +132,16 @@ module _ (interval : ℕ) (positive : 0 < interval) (own : ℕ) (o : Outline) (k
   abbrev w : AcknowledgmentWindow
   w = o.acknowledgment_window
 
-  abbrev runs_from : ℕ → Deadline
-  runs_from zero = deadline.Off
-  runs_from (suc i) = deadline.At (k + interval)
+  abbrev runs_from : ℕ → Option ℕ
+  runs_from zero = None
+  runs_from (suc i) = Some (k + interval)
 
   -- segment i is offered; it is with the lower layer; all are accepted
   abbrev offers : ℕ → Progress
   offers i =
       record {
         state = Prepared;
-        current = current.Submission (record { ticket = i; index = i; prepared_monotonic_ms = k });
+        current = Some (record { ticket = i; index = i; prepared_monotonic_ms = k });
         last_ticket = i;
         submitted = submitted_to i;
         retry = retried_to i;
@@ -159,12 +155,12 @@ module _ (interval : ℕ) (positive : 0 < interval) (own : ℕ) (o : Outline) (k
   queued i =
       record {
         state = AwaitingAccept;
-        current = current.Submission (record { ticket = i; index = i; prepared_monotonic_ms = k });
+        current = Some (record { ticket = i; index = i; prepared_monotonic_ms = k });
         last_ticket = i;
         submitted = submitted_to (suc i);
         retry = retried_to (suc i);
         received = no_marks;
-        deadline_monotonic_ms = deadline.At (k + interval);
+        deadline_monotonic_ms = Some (k + interval);
         last_monotonic_ms = k;
         layer3_submissions = counted_to (suc i);
       }
@@ -173,17 +169,17 @@ module _ (interval : ℕ) (positive : 0 < interval) (own : ℕ) (o : Outline) (k
   waits i =
       record {
         state = AwaitingResponse;
-        current = current.Nothing;
+        current = None;
         last_ticket = i;
         submitted = submitted_to (suc i);
         retry = retried_to (suc i);
         received = no_marks;
-        deadline_monotonic_ms = deadline.At (k + interval);
+        deadline_monotonic_ms = Some (k + interval);
         last_monotonic_ms = k;
         layer3_submissions = counted_to (suc i);
       }
 
-  not_due : due (deadline.At (k + interval)) k ≡ false
+  not_due : due (Some (k + interval)) k ≡ false
   not_due = lt-leb (k + interval) k (omega arith)
 
   in_64 : (i : ℕ) → i < 256 → ltb (2 ^ 64 - 1) i ≡ false
@@ -257,8 +253,8 @@ module _ (interval : ℕ) (positive : 0 < interval) (own : ℕ) (o : Outline) (k
   accepts_last : (i : ℕ) → suc i ≡ n → accepted_in own o (queued i) own i k ≡ left (waits i)
   accepts_last i e = word i (omega arith) (waits i) (simp (nothing, asked)) (omega arith)
     where
-      nothing : next_pending n (submitted_to (suc i)) (retried_to (suc i)) ≡ found.Nothing
-      nothing = subst (λ (m : ℕ). next_pending n (submitted_to m) (retried_to m) ≡ found.Nothing) (sym e) (next_none n most)
+      nothing : next_pending n (submitted_to (suc i)) (retried_to (suc i)) ≡ None
+      nothing = subst (λ (m : ℕ). next_pending n (submitted_to m) (retried_to m) ≡ None) (sym e) (next_none n most)
 
 -- ---- all of them, in order
 
@@ -316,7 +312,7 @@ module _ (interval : ℕ) (positive : 0 < interval) (t : Terms) (p : Plan) (know
 abbrev pub Finishes : ℕ → ℕ → Sender → Type 0
 Finishes interval k s =
     (s.progress.state ≡ AwaitingResponse)
-    × (s.progress.deadline_monotonic_ms ≡ deadline.At (k + interval))
+    × (s.progress.deadline_monotonic_ms ≡ Some (k + interval))
     × ((advance_of s (k + interval)).answer ≡ answered (Complete ExceptionIntervalElapsed))
 
 -- so does a sender of any plan of 2 to 256 segments, planned ones too, and of a known profile, once each was queued and accepted at k
@@ -326,7 +322,7 @@ exceptions_complete interval positive t p known k low e least most =
     let s = afterwards (step_of interval) (first_sender t p k) (sends t.number k 0 (plan_count p)) in
     let is = all_sent interval positive t p known k low (ap prohibited e) least most in
     let awaits : s.progress.state ≡ AwaitingResponse = ap (λ (x : Sender). x.progress.state) is in
-    let runs : s.progress.deadline_monotonic_ms ≡ deadline.At (k + interval) = ap (λ (x : Sender). x.progress.deadline_monotonic_ms) is in
+    let runs : s.progress.deadline_monotonic_ms ≡ Some (k + interval) = ap (λ (x : Sender). x.progress.deadline_monotonic_ms) is in
     let read : s.progress.last_monotonic_ms ≡ k = ap (λ (x : Sender). x.progress.last_monotonic_ms) is in
     let ticket : s.progress.last_ticket ≡ plan_count p - 1 = ap (λ (x : Sender). x.progress.last_ticket) is in (
       awaits,
@@ -336,13 +332,13 @@ exceptions_complete interval positive t p known k low e least most =
           (ap (λ (x : Sender). plan_window x.plan) is ∙ e)
           awaits
           (omega arith)
-          (ap (λ (d : Deadline). due d (k + interval)) runs ∙ le-leb (k + interval) (k + interval) (omega arith))
+          (ap (λ (d : Option ℕ). due d (k + interval)) runs ∙ le-leb (k + interval) (k + interval) (omega arith))
           (omega arith),
     )
 
 -- ---- so every frozen plan under Exceptions that the check accepts is finished by the sender that try_new makes of it
 
-pub frozen_finished : (q : Proposal) → length q.heads ≡ 256 → frozen_refusal q ≡ none → (frozen_of q).acknowledgment_window ≡ window.Exceptions
+pub frozen_finished : (q : Proposal) → length q.heads ≡ 256 → frozen_refusal q ≡ None → (frozen_of q).acknowledgment_window ≡ window.Exceptions
     → (t : Terms) (k : ℕ) → identity_refused t.peer ≡ false → protocol_served t.protocol ≡ true → known_profile t.profile ≡ true → 1 ≤ t.version
     → (interval : ℕ) → 0 < interval → k + interval < 2 ^ 64
     → Finishes interval k (afterwards (step_of interval) (try_new_of t (frozen_plan q) q.message k).sender (sends t.number k 0 q.count))
@@ -352,7 +348,7 @@ frozen_finished q wide ok asks t k i s known v interval positive low =
     (exceptions_complete interval positive t (frozen_plan q) known k low asks c.at_least c.at_most)
 
 -- by our sender, its own interval after k
-pub own_frozen_finished : (q : Proposal) → length q.heads ≡ 256 → frozen_refusal q ≡ none → (frozen_of q).acknowledgment_window ≡ window.Exceptions
+pub own_frozen_finished : (q : Proposal) → length q.heads ≡ 256 → frozen_refusal q ≡ None → (frozen_of q).acknowledgment_window ≡ window.Exceptions
     → (t : Terms) (k : ℕ) → identity_refused t.peer ≡ false → protocol_served t.protocol ≡ true → known_profile t.profile ≡ true → 1 ≤ t.version
     → k + sender_interval t.profile < 2 ^ 64
     → Finishes (sender_interval t.profile) k (afterwards ours (try_new_of t (frozen_plan q) q.message k).sender (sends t.number k 0 q.count))

@@ -1,19 +1,17 @@
 -- Words made from words, mark by mark: what each operation makes of words whose marks are known, and what is asked of the first n marks.
 -- Assumes nothing.
-use Prim.Native.Nat.{ℕ, suc, ◌-◌, ◌≤◌, ◌<◌}
+use Prim.Native.Nat.{ℕ, ◌≤◌, ◌<◌}
 use mathlib.Core.Path.{◌≡◌, refl, sym, ap, ap₂, ◌∙◌}
 use mathlib.Core.Bool.{Bool, true, false, cond, not, ◌&&◌, ◌||◌, and-false}
 use mathlib.Core.Logic.{⊎_elim}
 use native.Mathlib.Omega.{arith}
-use borrow.Author.Tests.{lt-ltb, le-ltb, le-leb, lt-leb, eqb-true, eqb-false, eq-eqb, ne_eqb}
-use lib.Dec.{eqb, leb, ltb}
+use borrow.Author.Tests.{lt-ltb, le-ltb, le-leb, lt-leb}
+use lib.Dec.{leb, ltb}
 use Rattle.words.specs.Marks.{marked, words_of, all_below, lowest_of}
 use Rattle.words.specs.Search.{lt_or_le, all_below_same, lowest_nothing, lowest_none, lowest_is, lowest_at}
 use Rattle.words.specs.Laws.{marked_as, words_of_ext, all_below_read}
 use Rattle.words.specs.declared.Words.{Words}
-use Rattle.words.specs.declared.Found.{Found}
-use Rattle.words.specs.declared.Found.TheVariants as found
-use Rattle.response.specs.declared.Acknowledged.TheVariants as entry
+use Rattle.std.specs.Prelude.{Option, Some, None}
 use Rattle.response.specs.Responses.{is_received}
 use Rattle.sender.specs.Steps.{retry_by}
 
@@ -62,9 +60,9 @@ lowest_first n v f l e = go (lowest_of f n) refl
         marks i h
         ∙ ⊎_elim (λ (q : i < n). ap (λ (t : Bool). ltb i n && t) (z q) ∙ and-false (ltb i n)) (λ (q : n ≤ i). ap (λ (t : Bool). t && f i) (le-ltb i n q)) (lt_or_le i n)
 
-    go : (r : Found) → lowest_of f n ≡ r → lowest_of (marked v) 256 ≡ r
-    go found.Nothing q = lowest_none (marked v) 256 (λ i h. clear i h (λ k. lowest_nothing f n q i k))
-    go (found.At k) q =
+    go : (r : Option ℕ) → lowest_of f n ≡ r → lowest_of (marked v) 256 ≡ r
+    go None q = lowest_none (marked v) 256 (λ i h. clear i h (λ k. lowest_nothing f n q i k))
+    go (Some k) q =
         let z = lowest_is f n k q in
         lowest_at (marked v) 256 k
         (record {
@@ -78,13 +76,6 @@ lowest_first n v f l e = go (lowest_of f n) refl
 pub not_below : (a b : ℕ) → not (ltb a b) ≡ leb b a
 not_below a b = ⊎_elim (λ (q : a < b). rw (lt-ltb a b q, lt-leb b a q)) (λ (q : b ≤ a). rw (le-ltb a b q, le-leb b a q)) (lt_or_le a b)
 
-pub eqb_pred : (j n : ℕ) → 0 < n → eqb j (n - 1) ≡ eqb (suc j) n
-eqb_pred j n l = go (eqb (suc j) n) refl
-  where
-    go : (b : Bool) → eqb (suc j) n ≡ b → eqb j (n - 1) ≡ b
-    go true e = let z = eqb-true (suc j) n e in eq-eqb j (n - 1) (omega arith)
-    go false e = ne_eqb j (n - 1) (λ q. eqb-false (suc j) n e (omega arith))
-
 pub and_swap : (a b c : Bool) → (a && (b && c)) ≡ (b && (a && c))
 and_swap true b c = refl
 and_swap false true c = refl
@@ -95,7 +86,7 @@ not_and true b = refl
 not_and false b = refl
 
 -- what a map's word makes of a mark: k, the segment was submitted; b and r, it has an entry, and the entry is set; o, the mark as it was
-pub told_timeout : (k b r o : Bool) → (o && not (k && (b && r)) || k && not (b && r)) ≡ cond k (retry_by (cond b (cond r entry.Received entry.Missing) entry.Unreported) true o) o
+pub told_timeout : (k b r o : Bool) → (o && not (k && (b && r)) || k && not (b && r)) ≡ cond k (retry_by (cond b (cond r (Some true) (Some false)) None) true o) o
 told_timeout true true true true = refl
 told_timeout true true true false = refl
 told_timeout true true false true = refl
@@ -105,7 +96,7 @@ told_timeout true false r false = refl
 told_timeout false b r true = refl
 told_timeout false b r false = refl
 
-pub told : (k b r o : Bool) → (o && not (k && (b && r)) || k && (b && not r)) ≡ cond k (retry_by (cond b (cond r entry.Received entry.Missing) entry.Unreported) false o) o
+pub told : (k b r o : Bool) → (o && not (k && (b && r)) || k && (b && not r)) ≡ cond k (retry_by (cond b (cond r (Some true) (Some false)) None) false o) o
 told true true true true = refl
 told true true true false = refl
 told true true false true = refl
@@ -115,7 +106,7 @@ told true false r false = refl
 told false b r true = refl
 told false b r false = refl
 
-pub received_is : (b r : Bool) → (b && r) ≡ is_received (cond b (cond r entry.Received entry.Missing) entry.Unreported)
+pub received_is : (b r : Bool) → (b && r) ≡ is_received (cond b (cond r (Some true) (Some false)) None)
 received_is true true = refl
 received_is true false = refl
 received_is false r = refl

@@ -4,7 +4,7 @@ use Prim.Native.Nat.{ℕ, ◌≤◌}
 use mathlib.Core.Path.{◌≡◌, refl, ap}
 use mathlib.Core.List.{List}
 use mathlib.Core.Bool.{Bool, true, false, not}
-use mathlib.Core.Option.{Option, none}
+use Rattle.std.specs.Prelude.{Option, None}
 use lib.ListN.{length}
 use borrow.Author.Tests.{le-ltb}
 use Rattle.link.specs.Peer.{identity_refused, protocol_served}
@@ -47,11 +47,11 @@ exceptions_40 t q f message k e i s c = simp (i, s, c, planned_exceptions q (len
 abbrev pub frozen_plan : Proposal → Plan
 frozen_plan q = record { form = form.Frozen; frozen = frozen_of q }
 
-pub frozen_passes : (q : Proposal) → length q.heads ≡ 256 → frozen_refusal q ≡ none → is_given (frozen_plan q) q.message ≡ true
+pub frozen_passes : (q : Proposal) → length q.heads ≡ 256 → frozen_refusal q ≡ None → is_given (frozen_plan q) q.message ≡ true
 unfolding is_given
 frozen_passes q wide ok = check_given q wide ok
 
-pub frozen_made : (q : Proposal) → length q.heads ≡ 256 → frozen_refusal q ≡ none
+pub frozen_made : (q : Proposal) → length q.heads ≡ 256 → frozen_refusal q ≡ None
     → (t : Terms) (k : ℕ) → identity_refused t.peer ≡ false → protocol_served t.protocol ≡ true → known_profile t.profile ≡ true → 1 ≤ t.version
     → try_new_of t (frozen_plan q) q.message k ≡ placed (first_sender t (frozen_plan q) k) (left (first_offer k))
 unfolding try_new_of

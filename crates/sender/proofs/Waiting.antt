@@ -5,7 +5,7 @@ use Prim.Native.Nat.{ℕ, ◌+◌, ◌-◌, ◌^◌, ◌≤◌, ◌<◌}
 use mathlib.Core.Path.{◌≡◌, refl, ap, ◌∙◌, subst}
 use mathlib.Core.List.{List, [], ◌∷◌}
 use mathlib.Core.Bool.{Bool, true, false, cond, not, ◌&&◌}
-use mathlib.Core.Option.{Option, none, some}
+use Rattle.std.specs.Prelude.{Option, Some, None}
 use native.Mathlib.Omega.{arith}
 use lib.Dec.{eqb, ltb}
 use borrow.Author.Tests.{le-leb, lt-leb}
@@ -20,8 +20,6 @@ use Rattle.tsar.specs.declared.AcknowledgmentWindow.TheVariants as window
 use Rattle.segmentation.specs.Plan.{plan_message, plan_of, segment_count}
 use Rattle.segmentation.specs.Frozen.{kept_heads, no_plan}
 use Rattle.segmentation.specs.declared.SegmentedMessage.{SegmentedMessage}
-use Rattle.sender.specs.declared.Deadline.{Deadline}
-use Rattle.sender.specs.declared.Deadline.TheVariants as deadline
 use Rattle.sender.specs.declared.PlanForm.TheVariants as form
 use Rattle.sender.specs.declared.Plan.{Plan}
 use Rattle.sender.specs.declared.Terms.{Terms}
@@ -56,8 +54,8 @@ module _ (q : Progress) (a : SenderState) where
   not_refused n p e = absurd (let z : ◌≡◌ {A = ℕ} 0 1 = cc in omega arith)
 
   past_refusal : (v : Option Refusal) (p : Progress) (t : Turn) → Gives t → Gives (on_refusal v p t)
-  past_refusal (some n) p t h = not_refused n p
-  past_refusal none p t h = h
+  past_refusal (Some n) p t h = not_refused n p
+  past_refusal None p t h = h
 
   -- behind the rows and 63
   past_rows : (v : Option Refusal) (p : Progress) (t : Turn) → Gives t → Gives (cond (ltb (2 ^ 64 - 1) (on_refusal v p t).progress.last_ticket) (refuses (63, 0) p) (on_refusal v p t))
@@ -72,19 +70,19 @@ module _ (s : Sender) (k : ℕ) (a : SenderState) (ok : (advance_of s k).answer 
       past_rows (advanced_to (outline s) s.progress k) a (refusal (clock_rows (outline s) s.progress k)) s.progress (left (advanced_to (outline s) s.progress k)) (λ e. refl) ok
 
 -- what fires takes the deadline away
-pub fire_off : (n : ℕ) (w : AcknowledgmentWindow) (p : Progress) (k : ℕ) → (fire n w p k).deadline_monotonic_ms ≡ deadline.Off
+pub fire_off : (n : ℕ) (w : AcknowledgmentWindow) (p : Progress) (k : ℕ) → (fire n w p k).deadline_monotonic_ms ≡ None
 fire_off n w p k = go (prohibited w) (is_exceptions w && awaits_response p.state && not (has_pending n p.submitted p.retry))
   where
     sent_again : Progress
-    sent_again = until (marking p (again n p p.current) p.received) deadline.Off
+    sent_again = until (marking p (again n p p.current) p.received) None
 
-    go : (b c : Bool) → (cond b (finish p (Failed SegmentInterval)) (cond c (finish p (Complete ExceptionIntervalElapsed)) (prepare n sent_again k))).deadline_monotonic_ms ≡ deadline.Off
+    go : (b c : Bool) → (cond b (finish p (Failed SegmentInterval)) (cond c (finish p (Complete ExceptionIntervalElapsed)) (prepare n sent_again k))).deadline_monotonic_ms ≡ None
     go true c = refl
     go false true = refl
     go false false = prepare_same (λ (q : Progress). q.deadline_monotonic_ms) n sent_again k (λ s c t. refl)
 
 -- an open sender whose deadline is due
-due_off : (o : Outline) (p : Progress) (k : ℕ) → is_closed p.state ≡ false → due p.deadline_monotonic_ms k ≡ true → (advanced_to o p k).deadline_monotonic_ms ≡ deadline.Off
+due_off : (o : Outline) (p : Progress) (k : ℕ) → is_closed p.state ≡ false → due p.deadline_monotonic_ms k ≡ true → (advanced_to o p k).deadline_monotonic_ms ≡ None
 unfolding advanced
 due_off o p k c d =
     ap (λ (b : Bool). (cond (not b && due p.deadline_monotonic_ms k) (fire o.count o.acknowledgment_window p k) p).deadline_monotonic_ms) c
@@ -95,17 +93,17 @@ due_off o p k c d =
 -- reading as it was; and one at d or past it leaves no deadline
 pub record WaitsUntil (d : ℕ) (s : Sender) : Type 0 where
   pub awaits : s.progress.state ≡ AwaitingAccept
-  pub runs : s.progress.deadline_monotonic_ms ≡ deadline.At d
+  pub runs : s.progress.deadline_monotonic_ms ≡ Some d
   pub before : (k : ℕ) (a : SenderState) → k < d → (advance_of s k).answer ≡ answered a → (advance_of s k).sender.progress ≡ read s.progress k
-  pub at : (k : ℕ) (a : SenderState) → d ≤ k → (advance_of s k).answer ≡ answered a → (advance_of s k).sender.progress.deadline_monotonic_ms ≡ deadline.Off
+  pub at : (k : ℕ) (a : SenderState) → d ≤ k → (advance_of s k).answer ≡ answered a → (advance_of s k).sender.progress.deadline_monotonic_ms ≡ None
 
-waits_until : (d : ℕ) (s : Sender) → s.progress.state ≡ AwaitingAccept → s.progress.deadline_monotonic_ms ≡ deadline.At d → WaitsUntil d s
+waits_until : (d : ℕ) (s : Sender) → s.progress.state ≡ AwaitingAccept → s.progress.deadline_monotonic_ms ≡ Some d → WaitsUntil d s
 waits_until d s w r =
     record {
       awaits = w;
       runs = r;
-      before = λ k a l ok. advance_gives s k a ok ∙ idle (outline s) s.progress k (ap (λ (x : Deadline). due x k) r ∙ lt-leb d k l);
-      at = λ k a l ok. ap (λ (q : Progress). q.deadline_monotonic_ms) (advance_gives s k a ok) ∙ due_off (outline s) s.progress k (ap is_closed w) (ap (λ (x : Deadline). due x k) r ∙ le-leb d k l);
+      before = λ k a l ok. advance_gives s k a ok ∙ idle (outline s) s.progress k (ap (λ (x : Option ℕ). due x k) r ∙ lt-leb d k l);
+      at = λ k a l ok. ap (λ (q : Progress). q.deadline_monotonic_ms) (advance_gives s k a ok) ∙ due_off (outline s) s.progress k (ap is_closed w) (ap (λ (x : Option ℕ). due x k) r ∙ le-leb d k l);
     }
 
 -- ---- a submission, for any interval
@@ -127,8 +125,8 @@ abbrev pub counted_in : ℕ → Sender → ℕ → Progress
 counted_in interval s queued = counted interval (outline s).count (outline s).acknowledgment_window s.progress queued
 
 -- its deadline is then exactly an interval past the queued reading
-pub counted_deadline : (interval : ℕ) (s : Sender) (queued : ℕ) → SetsDeadline s → (counted_in interval s queued).deadline_monotonic_ms ≡ deadline.At (queued + interval)
-counted_deadline interval s queued e = ap (λ (b : Bool). cond b (deadline.At (queued + interval)) deadline.Off) e
+pub counted_deadline : (interval : ℕ) (s : Sender) (queued : ℕ) → SetsDeadline s → (counted_in interval s queued).deadline_monotonic_ms ≡ Some (queued + interval)
+counted_deadline interval s queued e = ap (λ (b : Bool). cond b (Some (queued + interval)) None) e
 
 module _ (interval : ℕ) (s : Sender) (number ticket queued observed : ℕ) (a : SenderState) (ok : (step_of interval s (submitted number ticket queued observed)).answer ≡ answered a) where
   -- a submitted that is not refused leaves that, advanced to the observed reading
@@ -147,16 +145,16 @@ module _ (interval : ℕ) (s : Sender) (number ticket queued observed : ℕ) (a 
   pub submitted_waits : SetsDeadline s → observed < queued + interval → WaitsUntil (queued + interval) (step_of interval s (submitted number ticket queued observed)).sender
   submitted_waits e l =
       let c = counted_deadline interval s queued e in
-      let same = submitted_counts ∙ idle (outline s) (counted_in interval s queued) observed (ap (λ (x : Deadline). due x observed) c ∙ lt-leb (queued + interval) observed l) in
+      let same = submitted_counts ∙ idle (outline s) (counted_in interval s queued) observed (ap (λ (x : Option ℕ). due x observed) c ∙ lt-leb (queued + interval) observed l) in
       waits_until (queued + interval) (step_of interval s (submitted number ticket queued observed)).sender
       (ap (λ (q : Progress). q.state) same)
       (ap (λ (q : Progress). q.deadline_monotonic_ms) same ∙ c)
 
   -- where it is at the deadline or past it, none is left
-  pub submitted_late : SetsDeadline s → queued + interval ≤ observed → (step_of interval s (submitted number ticket queued observed)).sender.progress.deadline_monotonic_ms ≡ deadline.Off
+  pub submitted_late : SetsDeadline s → queued + interval ≤ observed → (step_of interval s (submitted number ticket queued observed)).sender.progress.deadline_monotonic_ms ≡ None
   submitted_late e l =
       ap (λ (q : Progress). q.deadline_monotonic_ms) submitted_counts
-      ∙ due_off (outline s) (counted_in interval s queued) observed refl (ap (λ (x : Deadline). due x observed) (counted_deadline interval s queued e) ∙ le-leb (queued + interval) observed l)
+      ∙ due_off (outline s) (counted_in interval s queued) observed refl (ap (λ (x : Option ℕ). due x observed) (counted_deadline interval s queued e) ∙ le-leb (queued + interval) observed l)
 
 -- ---- of ours, at its own interval
 
@@ -164,7 +162,7 @@ module _ (s : Sender) (number ticket queued observed : ℕ) (a : SenderState) (o
   pub own_waits : observed < queued + interval_of s → WaitsUntil (queued + interval_of s) (ours s (submitted number ticket queued observed)).sender
   own_waits l = submitted_waits (interval_of s) s number ticket queued observed a ok sets l
 
-  pub own_late : queued + interval_of s ≤ observed → (ours s (submitted number ticket queued observed)).sender.progress.deadline_monotonic_ms ≡ deadline.Off
+  pub own_late : queued + interval_of s ≤ observed → (ours s (submitted number ticket queued observed)).sender.progress.deadline_monotonic_ms ≡ None
   own_late l = submitted_late (interval_of s) s number ticket queued observed a ok sets l
 
   -- where that is n
@@ -211,13 +209,13 @@ example_made profile =
     (record { form = form.Planned example_plan; frozen = no_plan }) (10 ∷ 11 ∷ 12 ∷ 13 ∷ 14 ∷ 15 ∷ 16 ∷ 17 ∷ 18 ∷ 19 ∷ []) 0
 
 -- the state and the deadline, behind the submission and some calls
-abbrev stands : ℕ → List Call → SenderState × Deadline
+abbrev stands : ℕ → List Call → SenderState × Option ℕ
 stands profile cs =
     let p = (afterwards ours (example_made profile).sender (submitted 0 0 0 0 ∷ cs)).progress in
     (p.state, p.deadline_monotonic_ms)
 
 -- behind it, after an advance to one reading, and after an advance to another
-abbrev course : ℕ → ℕ → ℕ → List (SenderState × Deadline)
+abbrev course : ℕ → ℕ → ℕ → List (SenderState × Option ℕ)
 course profile early late = stands profile [] ∷ stands profile (advance early ∷ []) ∷ stands profile (advance late ∷ []) ∷ []
 
 -- try_new makes both
@@ -226,11 +224,11 @@ unfolding try_new_of is_given same_heads kept_heads plan_message plan_of segment
 both_made = (refl, refl)
 
 -- profile 1: 330,000 ms, a millisecond less leaves it waiting
-pub waits_1 : course 1 329999 330000 ≡ (AwaitingAccept, deadline.At 330000) ∷ (AwaitingAccept, deadline.At 330000) ∷ (Failed SegmentInterval, deadline.Off) ∷ []
+pub waits_1 : course 1 329999 330000 ≡ (AwaitingAccept, Some 330000) ∷ (AwaitingAccept, Some 330000) ∷ (Failed SegmentInterval, None) ∷ []
 unfolding try_new_of is_given same_heads kept_heads plan_message plan_of segment_count known_profile sender_interval submitted_of submitted_in advance_of advance_in advanced impossible all_below lowest_of marked words_of sum_below
 waits_1 = refl
 
 -- profile 2: 150,000 ms
-pub waits_2 : course 2 149999 150000 ≡ (AwaitingAccept, deadline.At 150000) ∷ (AwaitingAccept, deadline.At 150000) ∷ (Failed SegmentInterval, deadline.Off) ∷ []
+pub waits_2 : course 2 149999 150000 ≡ (AwaitingAccept, Some 150000) ∷ (AwaitingAccept, Some 150000) ∷ (Failed SegmentInterval, None) ∷ []
 unfolding try_new_of is_given same_heads kept_heads plan_message plan_of segment_count known_profile sender_interval submitted_of submitted_in advance_of advance_in advanced impossible all_below lowest_of marked words_of sum_below
 waits_2 = refl

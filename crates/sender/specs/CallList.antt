@@ -1,10 +1,9 @@
 -- A list of calls on one sender: what each answers, and what they leave. Every sender that calls reach from a try_new that was not refused has
 -- the facts of reached senders, for any interval, and no call of such a list is refused with 62. Assumes nothing.
-use Rattle.std.specs.Prelude.{ℕ, ◌-◌, ◌^◌, ◌≤◌, ◌≡◌, Bool, true, false, cond, not, ◌&&◌, ◌||◌, eqb, ltb}
+use Rattle.std.specs.Prelude.{ℕ, ◌-◌, ◌^◌, ◌≤◌, ◌≡◌, Bool, true, false, cond, not, ◌&&◌, ◌||◌, eqb, ltb, Option, Some, None}
 use Rattle.std.proofs.Math.Path.{refl}
 use Rattle.std.proofs.Common.{sym, ap, ◌∙◌, subst, true≢false, arith}
 use mathlib.Core.List.{List, [], ◌∷◌, ◌++◌}
-use Rattle.std.proofs.Math.Option.{Option, none, some}
 use borrow.Author.Tests.{ltb-false, not-true, not-false}
 use Rattle.words.specs.Marks.{marked, no_marks, all_below}
 use Rattle.words.specs.Search.{lowest_at}
@@ -81,14 +80,14 @@ advanced_last o p k = refl
 turn_keeps : (P : Progress → Type 0) (p : Progress) (t : Turn) → P p → P t.progress → P (or_tickets p t).progress
 turn_keeps P p t a b = either (λ (u : Turn). P u.progress) (ltb (2 ^ 64 - 1) t.progress.last_ticket) (refuses (63, 0) p) t (λ e. a) (λ e. b)
 
-refusal_keeps : (P : Progress → Type 0) (rows : List (Bool × Refusal)) (p : Progress) (t : Turn) → P p → (refusal rows ≡ none → P t.progress) → P (on_refusal (refusal rows) p t).progress
+refusal_keeps : (P : Progress → Type 0) (rows : List (Bool × Refusal)) (p : Progress) (t : Turn) → P p → (refusal rows ≡ None → P t.progress) → P (on_refusal (refusal rows) p t).progress
 refusal_keeps P rows p t a b = go (refusal rows) refl
   where
     go : (r : Option Refusal) → refusal rows ≡ r → P (on_refusal r p t).progress
-    go (some n) e = a
-    go none e = b e
+    go (Some n) e = a
+    go None e = b e
 
-rows_keep : (P : Progress → Type 0) (rows : List (Bool × Refusal)) (p : Progress) (t : Turn) → P p → (refusal rows ≡ none → P t.progress) → P (or_tickets p (on_refusal (refusal rows) p t)).progress
+rows_keep : (P : Progress → Type 0) (rows : List (Bool × Refusal)) (p : Progress) (t : Turn) → P p → (refusal rows ≡ None → P t.progress) → P (or_tickets p (on_refusal (refusal rows) p t)).progress
 rows_keep P rows p t a b = turn_keeps P p (on_refusal (refusal rows) p t) a (refusal_keeps P rows p t a b)
 
 module _ (interval : ℕ) (o : Outline) (p : Progress) (h : Now interval o p) where
@@ -177,15 +176,15 @@ response_keeps interval t o p a h =
     rows_keep (Now interval o) rows p (late_first o p a) h
     (λ e.
     let clock = refusal_none rows e 1 in
-    let some = refusal_none rows e 13 in
+    let Some = refusal_none rows e 13 in
     let own = refusal_none rows e 14 in
     either (λ (u : Turn). Now interval o u.progress) (late p.deadline_monotonic_ms a.reading) _ (left (reacted o p a))
     (λ l. either (λ (u : Turn). Now interval o u.progress) (is_closed q.state) (refuses (38, 0) q) (left (reacted o q a))
     (λ c. later_now interval o p h a.reading clock)
     (λ c. reacted_now interval o q a (later interval o p h a.reading clock)
     (ap (λ (w : Words). acknowledges_unsubmitted o.count w a.response.acknowledgments) same ∙ own)
-    (ap (λ (w : Words). all_below o.count (λ i. not (marked w i))) same ∙ some)))
-    (λ l. reacted_now interval o p a (at interval o p h a.reading clock) own some))
+    (ap (λ (w : Words). all_below o.count (λ i. not (marked w i))) same ∙ Some)))
+    (λ l. reacted_now interval o p a (at interval o p h a.reading clock) own Some))
   where
     rows : List (Bool × Refusal)
     rows = response_rows_of t o p a
@@ -247,13 +246,13 @@ abbrev none_says : List (Bool × Refusal) → Bool
 none_says [] = true
 none_says (c ∷ cs) = not (eqb c.1.0 62) && none_says cs
 
-says_other : (cs : List (Bool × Refusal)) → none_says cs ≡ true → (r : Refusal) → refusal cs ≡ some r → eqb r.0 62 ≡ false
+says_other : (cs : List (Bool × Refusal)) → none_says cs ≡ true → (r : Refusal) → refusal cs ≡ Some r → eqb r.0 62 ≡ false
 says_other [] e r f = absurd (let z : ◌≡◌ {A = ℕ} 0 1 = cc in omega arith)
 says_other (c ∷ cs) e r f =
     let b = and_both (not (eqb c.1.0 62)) (none_says cs) e in
     go c.0 b.0 (says_other cs b.1 r) f
   where
-    go : (t : Bool) → not (eqb c.1.0 62) ≡ true → (refusal cs ≡ some r → eqb r.0 62 ≡ false) → cond t (some c.1) (refusal cs) ≡ some r → eqb r.0 62 ≡ false
+    go : (t : Bool) → not (eqb c.1.0 62) ≡ true → (refusal cs ≡ Some r → eqb r.0 62 ≡ false) → cond t (Some c.1) (refusal cs) ≡ Some r → eqb r.0 62 ≡ false
     go true n rest f =
         let z : c.1 ≡ r = cc in
         ap (λ (v : Refusal). eqb v.0 62) (sym z) ∙ not-true (eqb c.1.0 62) n
@@ -266,8 +265,8 @@ says_not b v cs p t e n a =
     (λ f. go (refusal cs) refl)
   where
     go : (r : Option Refusal) → refusal cs ≡ r → is_impossible (on_refusal (refusal ((b, v) ∷ cs)) p t).answer ≡ false
-    go (some r) f = rw (e, f) (says_other cs n r f)
-    go none f = rw (e, f) a
+    go (Some r) f = rw (e, f) (says_other cs n r f)
+    go None f = rw (e, f) a
 
 -- a sender of a known profile that stands as the reached ones do is not impossible
 pub standing_possible : (o : Outline) (p : Progress) → Standing o.count o.acknowledgment_window p → known_profile o.profile ≡ true → impossible_in o p ≡ false
@@ -284,8 +283,8 @@ module _ (interval : ℕ) (o : Outline) (p : Progress) (h : Now interval o p) (k
       rows = count_rows interval (sets_deadline o.count o.acknowledgment_window p) p queued
 
       go : (r : Option Refusal) → refusal (count_rows interval (sets_deadline o.count o.acknowledgment_window p) p queued) ≡ r → is_impossible (on_refusal r p (left (advanced_to o (counted interval o.count o.acknowledgment_window p queued) observed))).answer ≡ false
-      go (some r) f = says_other (count_rows interval (sets_deadline o.count o.acknowledgment_window p) p queued) refl r f
-      go none f = refl
+      go (Some r) f = says_other (count_rows interval (sets_deadline o.count o.acknowledgment_window p) p queued) refl r f
+      go None f = refl
 
   advance_says : (k : ℕ) → is_impossible (advance_in o p k).answer ≡ false
   unfolding advance_in

@@ -1,7 +1,7 @@
 -- What the sender's calls answer and leave: document 01, 'Port order' 4, 62 first, then the order of link/tsar/sender.rs. Each is defined on the
 -- progress, given what the calls read of the plan; the sender's own definition puts the progress back in its place.
-use Rattle.std.specs.Prelude.{ℕ, ◌-◌, ◌^◌, List, [], ◌∷◌, ◌++◌, Bool, false, cond, not, ◌&&◌, ◌||◌, eqb, ltb}
-use Rattle.std.proofs.Math.Option.{Option, none, some}
+use Rattle.std.specs.Prelude.{ℕ, ◌-◌, ◌^◌, List, [], ◌∷◌, ◌++◌, Bool, false, cond, not, ◌&&◌, ◌||◌, eqb, ltb, Option, Some, None}
+use Rattle.sender.specs.declared.Submission.{Submission}
 use Rattle.words.specs.Marks.{marked, all_below}
 use Rattle.words.specs.declared.Words.{Words}
 use Rattle.link.specs.Peer.{same_identity, same_protocol}
@@ -11,8 +11,6 @@ use Rattle.tsar.specs.declared.AcknowledgmentWindow.{AcknowledgmentWindow}
 use Rattle.response.specs.Responses.{status_number, response_rows}
 use Rattle.response.specs.declared.AcknowledgmentMap.{AcknowledgmentMap}
 use Rattle.response.specs.declared.Response.{Response}
-use Rattle.sender.specs.declared.Current.{Current}
-use Rattle.sender.specs.declared.Current.TheVariants as current
 use Rattle.sender.specs.declared.LowerLayerFailure.{LowerLayerFailure}
 use Rattle.sender.specs.declared.SenderFailure.TheVariants.{LowerLayer}
 use Rattle.sender.specs.declared.SenderState.{SenderState}
@@ -53,8 +51,8 @@ abbrev pub or_tickets : Progress → Turn → Turn
 or_tickets p t = cond (ltb (2 ^ 64 - 1) t.progress.last_ticket) (refuses (63, 0) p) t
 
 abbrev pub on_refusal : Option Refusal → Progress → Turn → Turn
-on_refusal (some n) p t = refuses n p
-on_refusal none p t = t
+on_refusal (Some n) p t = refuses n p
+on_refusal None p t = t
 
 -- the progress in its sender
 abbrev pub placed : Sender → Turn → Step
@@ -85,13 +83,13 @@ cancel_of s now' = placed s (cancel_in (outline s) s.progress now')
 -- ---- the lower layer's events
 
 -- the token, a sender number and a ticket, is that of the present submission of sender `own`
-abbrev pub owns : ℕ → Current → ℕ → ℕ → Bool
-owns own current.Nothing number ticket = false
-owns own (current.Submission x) number ticket = eqb own number && eqb x.ticket ticket
+abbrev pub owns : ℕ → Option Submission → ℕ → ℕ → Bool
+owns own None number ticket = false
+owns own (Some x) number ticket = eqb own number && eqb x.ticket ticket
 
-abbrev pub prepared_at : Current → ℕ
-prepared_at current.Nothing = 0
-prepared_at (current.Submission x) = x.prepared_monotonic_ms
+abbrev pub prepared_at : Option Submission → ℕ
+prepared_at None = 0
+prepared_at (Some x) = x.prepared_monotonic_ms
 
 -- 38, 42, 44
 abbrev pub offer_rows : ℕ → Progress → ℕ → ℕ → ℕ → ℕ → List (Bool × Refusal)

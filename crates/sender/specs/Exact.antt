@@ -2,11 +2,10 @@
 -- plan exactly where a planner, plan_message or the even one (2026-02), gives it, at some budget, transaction, window and version and under some
 -- ceiling, with the frozen part of no segments beside it; or where the frozen check gives it, for some proposal of 256 heads, under some version
 -- and ceiling. The one hypothesis is that the plan's array has 256 heads, which is a fact of its type.
-use Rattle.std.specs.Prelude.{ℕ, zero, suc, ◌-◌, ◌≤◌, ◌≡◌, refl, List, [], ◌∷◌, ◌++◌, Bool, true, false, ◌&&◌, ◌||◌, ◌↔◌, length, take, drop, replicate, eqb}
+use Rattle.std.specs.Prelude.{ℕ, zero, suc, ◌-◌, ◌≤◌, ◌≡◌, refl, List, [], ◌∷◌, ◌++◌, Bool, true, false, ◌&&◌, ◌||◌, ◌↔◌, length, take, drop, replicate, eqb, Option, Some, None}
 use Rattle.std.proofs.Common.{sym, ◌∙◌, subst, true≢false, ⊎_elim, arith, eqb-true, eq-eqb}
 use Rattle.std.proofs.Math.Path.{ap}
 use Rattle.std.proofs.Math.Bool.{or-true}
-use Rattle.std.proofs.Math.Option.{Option, none, some}
 use Rattle.tsar.specs.Rows.{Refusal, refusal, refusal_none, refusal_pass}
 use Rattle.tsar.specs.Kinds.{same_kind}
 use Rattle.tsar.specs.Layout.{window_number}
@@ -179,17 +178,17 @@ pub record GivenByCheck (f : FrozenMessage) (message : List ℕ) : Type 0 where
   pub proposal : Proposal
   pub wide : length proposal.heads ≡ 256
   pub of_message : proposal.message ≡ message
-  pub gives : try_from_frozen proposal ≡ record { refused = none; plan = f }
+  pub gives : try_from_frozen proposal ≡ record { refused = None; plan = f }
 
 frozen_given : (f : FrozenMessage) (message : List ℕ) → length f.heads ≡ 256 → is_frozen (try_from_frozen (proposing f message)) f ≡ true → GivenByCheck f message
 unfolding try_from_frozen
 frozen_given f message wide e = go (frozen_refusal (proposing f message)) refl e
   where
     go : (r : Option Refusal) → frozen_refusal (proposing f message) ≡ r → is_frozen (checked_as r (proposing f message)) f ≡ true → GivenByCheck f message
-    go (some v) m e = absurd (true≢false (sym e))
-    go none m e =
+    go (Some v) m e = absurd (true≢false (sym e))
+    go None m e =
         let p = same_frozen_lem (frozen_of (proposing f message)) f e in
-        record { proposal = proposing f message; wide = wide; of_message = refl; gives = ap (λ (r : Option Refusal). checked_as r (proposing f message)) m ∙ (λ i. record { refused = none; plan = p i }) }
+        record { proposal = proposing f message; wide = wide; of_message = refl; gives = ap (λ (r : Option Refusal). checked_as r (proposing f message)) m ∙ (λ i. record { refused = None; plan = p i }) }
 
 -- the other way: what the check gives for a proposal of 256 heads is given for itself
 
@@ -213,11 +212,11 @@ kept_kept : (hs : List SegmentHead) (n : ℕ) → n ≤ length hs → kept_heads
 unfolding kept_heads
 kept_kept hs n l = ap (λ (t : List SegmentHead). t ++ replicate (256 - n) no_head) (kept_front n hs (replicate (256 - n) no_head) l)
 
-module _ (q : Proposal) (wide : length q.heads ≡ 256) (ok : frozen_refusal q ≡ none) where
+module _ (q : Proposal) (wide : length q.heads ≡ 256) (ok : frozen_refusal q ≡ None) where
   abbrev own : Proposal
   own = proposing (frozen_of q) q.message
 
-  own_passes : frozen_refusal own ≡ none
+  own_passes : frozen_refusal own ≡ None
   own_passes =
       let a = (accepted_iff q).0 ok in
       let b = acceptable_heads q (kept_heads q.heads q.count) (λ i h. sym (kept_head q.heads q.count i h)) a in
@@ -231,8 +230,8 @@ module _ (q : Proposal) (wide : length q.heads ≡ 256) (ok : frozen_refusal q �
         fits = b.fits;
       })
     where
-      coded : (i : ℕ) → refusal (codec_rows q.version (head_at (kept_heads q.heads q.count) i).segment (head_at (kept_heads q.heads q.count) i).segment_data_length) ≡ none
-          → refusal (codec_rows 1 (head_at (kept_heads q.heads q.count) i).segment (head_at (kept_heads q.heads q.count) i).segment_data_length) ≡ none
+      coded : (i : ℕ) → refusal (codec_rows q.version (head_at (kept_heads q.heads q.count) i).segment (head_at (kept_heads q.heads q.count) i).segment_data_length) ≡ None
+          → refusal (codec_rows 1 (head_at (kept_heads q.heads q.count) i).segment (head_at (kept_heads q.heads q.count) i).segment_data_length) ≡ None
       coded i e =
           let h = head_at (kept_heads q.heads q.count) i in
           let t = refusal_none (codec_rows q.version h.segment h.segment_data_length) e in
@@ -255,12 +254,12 @@ given_frozen : (f : FrozenMessage) (message : List ℕ) → GivenByCheck f messa
 unfolding try_from_frozen
 given_frozen f message g = go (frozen_refusal g.proposal) refl g.gives
   where
-    go : (r : Option Refusal) → frozen_refusal g.proposal ≡ r → checked_as r g.proposal ≡ record { refused = none; plan = f } → is_frozen (try_from_frozen (proposing f message)) f ≡ true
-    go (some v) m e =
+    go : (r : Option Refusal) → frozen_refusal g.proposal ≡ r → checked_as r g.proposal ≡ record { refused = None; plan = f } → is_frozen (try_from_frozen (proposing f message)) f ≡ true
+    go (Some v) m e =
         let q = ap (λ (c : Checked). c.refused) e in
         let z : ◌≡◌ {A = ℕ} 0 1 = cc in
         absurd (omega arith)
-    go none m e =
+    go None m e =
         let p : frozen_of g.proposal ≡ f = ap (λ (c : Checked). c.plan) e in
         subst (λ (l : List ℕ). is_frozen (try_from_frozen (proposing f l)) f ≡ true) g.of_message
         (subst (λ (x : FrozenMessage). is_frozen (try_from_frozen (proposing x g.proposal.message)) x ≡ true) p (check_given g.proposal g.wide m))

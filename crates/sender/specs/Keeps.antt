@@ -1,22 +1,16 @@
 -- Each step keeps the facts of reached senders: preparing, finishing, advancing, counting a submission, and reacting to a response. Assumes nothing.
-use Rattle.std.specs.Prelude.{ℕ, ◌+◌, ◌≤◌, ◌<◌, ◌≡◌, refl, Bool, true, false, cond, not, ◌&&◌, ◌||◌, eqb}
+use Rattle.std.specs.Prelude.{ℕ, ◌+◌, ◌≤◌, ◌<◌, ◌≡◌, refl, Bool, true, false, cond, not, ◌&&◌, ◌||◌, eqb, Option, Some, None}
 use Rattle.std.proofs.Common.{sym, ap, ◌∙◌, subst, true≢false, ⊎_elim, arith, eqb-true}
 use Rattle.std.proofs.Math.Bool.{or-true}
 use Rattle.words.specs.Marks.{marked, no_marks, all_below}
 use Rattle.words.specs.Search.{lowest_is}
 use Rattle.words.specs.Laws.{marked_words_of, marked_none}
 use Rattle.words.specs.declared.Words.{Words}
-use Rattle.words.specs.declared.Found.{Found}
-use Rattle.words.specs.declared.Found.TheVariants as found
 use Rattle.tsar.specs.Rows.{either}
 use Rattle.tsar.specs.Kinds.{prohibited}
 use Rattle.tsar.specs.declared.AcknowledgmentWindow.{AcknowledgmentWindow}
 use Rattle.response.specs.declared.Response.{Response}
-use Rattle.sender.specs.declared.Deadline.{Deadline}
-use Rattle.sender.specs.declared.Deadline.TheVariants as deadline
 use Rattle.sender.specs.declared.Submission.{Submission}
-use Rattle.sender.specs.declared.Current.{Current}
-use Rattle.sender.specs.declared.Current.TheVariants as current
 use Rattle.sender.specs.declared.SenderState.{SenderState}
 use Rattle.sender.specs.declared.SenderState.TheVariants.{Prepared, AwaitingAccept, AwaitingResponse, Complete, Failed, Cancelled}
 use Rattle.sender.specs.declared.Completion.TheVariants.{LowerLayerAccepted, PeerReceived, ExceptionIntervalElapsed}
@@ -48,29 +42,29 @@ accept_is (Complete k) e = absurd (true≢false (sym e))
 accept_is (Failed k) e = absurd (true≢false (sym e))
 accept_is Cancelled e = absurd (true≢false (sym e))
 
-at_is : (c : Current) (i : ℕ) → is_at c i ≡ true → (x : Submission) × (c ≡ current.Submission x) × (x.index ≡ i)
-at_is current.Nothing i e = absurd (true≢false (sym e))
-at_is (current.Submission x) i e = (x, refl, eqb-true x.index i e)
+at_is : (c : Option Submission) (i : ℕ) → is_at c i ≡ true → (x : Submission) × (c ≡ Some x) × (x.index ≡ i)
+at_is None i e = absurd (true≢false (sym e))
+at_is (Some x) i e = (x, refl, eqb-true x.index i e)
 
 -- ---- preparing
 
 -- it changes neither the marks nor the deadline nor the reading
-pub prepare_same : {A : Type 0} (get : Progress → A) (n : ℕ) (p : Progress) (now' : ℕ) → ((s : SenderState) (c : Current) (t : ℕ) → get (offering p s c t) ≡ get p) → get (prepare n p now') ≡ get p
+pub prepare_same : {A : Type 0} (get : Progress → A) (n : ℕ) (p : Progress) (now' : ℕ) → ((s : SenderState) (c : Option Submission) (t : ℕ) → get (offering p s c t) ≡ get p) → get (prepare n p now') ≡ get p
 prepare_same get n p now' h = go (next_pending n p.submitted p.retry)
   where
-    go : (f : Found) → get (prepare_for f p now') ≡ get p
-    go found.Nothing = h AwaitingResponse current.Nothing p.last_ticket
-    go (found.At i) = either (λ q. get q ≡ get p) (is_prepared p.state && is_at p.current i) p _ (λ e. refl) (λ e. h _ _ _)
+    go : (f : Option ℕ) → get (prepare_for f p now') ≡ get p
+    go None = h AwaitingResponse None p.last_ticket
+    go (Some i) = either (λ q. get q ≡ get p) (is_prepared p.state && is_at p.current i) p _ (λ e. refl) (λ e. h _ _ _)
 
 -- it leaves a sender that stands, if it runs where nothing is pending
 module _ (n : ℕ) (w : AcknowledgmentWindow) (p : Progress) (now' : ℕ) (l : 2 ≤ n) (m : n ≤ 256) (marks : MarksLie n p.submitted p.retry p.received) where
-  pub prepare_stands : (next_pending n p.submitted p.retry ≡ found.Nothing → running p.deadline_monotonic_ms ≡ true) → Standing n w (prepare n p now')
+  pub prepare_stands : (next_pending n p.submitted p.retry ≡ None → running p.deadline_monotonic_ms ≡ true) → Standing n w (prepare n p now')
   prepare_stands runs = go (next_pending n p.submitted p.retry) refl
     where
-      offers : (i : ℕ) → next_pending n p.submitted p.retry ≡ found.At i → i < n
+      offers : (i : ℕ) → next_pending n p.submitted p.retry ≡ Some i → i < n
       offers i e = (lowest_is (needs p.submitted p.retry) n i e).within
 
-      kept : (i : ℕ) → next_pending n p.submitted p.retry ≡ found.At i → (is_prepared p.state && is_at p.current i) ≡ true → Standing n w p
+      kept : (i : ℕ) → next_pending n p.submitted p.retry ≡ Some i → (is_prepared p.state && is_at p.current i) ≡ true → Standing n w p
       kept i e t =
           let s = and_both (is_prepared p.state) (is_at p.current i) t in
           let x = at_is p.current i s.1 in
@@ -79,12 +73,12 @@ module _ (n : ℕ) (w : AcknowledgmentWindow) (p : Progress) (now' : ℕ) (l : 2
             least = l;
             most = m;
             marks = marks;
-            stands = subst (λ (st : SenderState). Stands st p.current (next_pending n p.submitted p.retry) p.deadline_monotonic_ms (prohibited w) n) (sym (prepared_is p.state s.0)) (x.0, x.1, e ∙ ap found.At (sym x.2), b);
+            stands = subst (λ (st : SenderState). Stands st p.current (next_pending n p.submitted p.retry) p.deadline_monotonic_ms (prohibited w) n) (sym (prepared_is p.state s.0)) (x.0, x.1, e ∙ ap Some (sym x.2), b);
           }
 
-      go : (f : Found) → next_pending n p.submitted p.retry ≡ f → Standing n w (prepare_for f p now')
-      go found.Nothing e = record { least = l; most = m; marks = marks; stands = (refl, e, runs e) }
-      go (found.At i) e =
+      go : (f : Option ℕ) → next_pending n p.submitted p.retry ≡ f → Standing n w (prepare_for f p now')
+      go None e = record { least = l; most = m; marks = marks; stands = (refl, e, runs e) }
+      go (Some i) e =
           either (Standing n w) (is_prepared p.state && is_at p.current i) p _
           (kept i e) (λ t. record { least = l; most = m; marks = marks; stands = (_, refl, e, offers i e) })
 
@@ -94,7 +88,7 @@ module _ (interval n : ℕ) (w : AcknowledgmentWindow) (p : Progress) (now' : �
   pub finish_reached : (s : SenderState) → is_closed s ≡ true → Reached interval n w (finish p s) now'
   finish_reached s e = record { standing = record { least = l; most = m; marks = marks; stands = closed s e }; in_time = tt }
     where
-      closed : (s : SenderState) → is_closed s ≡ true → Stands s current.Nothing (next_pending n p.submitted p.retry) deadline.Off (prohibited w) n
+      closed : (s : SenderState) → is_closed s ≡ true → Stands s None (next_pending n p.submitted p.retry) None (prohibited w) n
       closed Prepared e = absurd (true≢false (sym e))
       closed AwaitingAccept e = absurd (true≢false (sym e))
       closed AwaitingResponse e = absurd (true≢false (sym e))
@@ -116,16 +110,16 @@ advanced_submitted n w p now' =
     either (λ q. q.submitted ≡ p.submitted) (not (is_closed p.state) && due p.deadline_monotonic_ms now') (fire n w p now') p
     (λ e. either (λ q. q.submitted ≡ p.submitted) (prohibited w) (finish p (Failed SegmentInterval)) _ (λ f. refl)
     (λ f. either (λ q. q.submitted ≡ p.submitted) (is_exceptions w && awaits_response p.state && not (has_pending n p.submitted p.retry)) (finish p (Complete ExceptionIntervalElapsed)) _ (λ g. refl)
-    (λ g. prepare_same (λ q. q.submitted) n (until (marking p (again n p p.current) p.received) deadline.Off) now' (λ s c t. refl))))
+    (λ g. prepare_same (λ q. q.submitted) n (until (marking p (again n p p.current) p.received) None) now' (λ s c t. refl))))
     (λ e. refl)
 
 -- preparing, where the deadline is in time
 prepare_reached : (interval n : ℕ) (w : AcknowledgmentWindow) (p : Progress) (now' : ℕ) → 2 ≤ n → n ≤ 256 → MarksLie n p.submitted p.retry p.received
-    → (next_pending n p.submitted p.retry ≡ found.Nothing → running p.deadline_monotonic_ms ≡ true) → InTime interval p.deadline_monotonic_ms now' → Reached interval n w (prepare n p now') now'
+    → (next_pending n p.submitted p.retry ≡ None → running p.deadline_monotonic_ms ≡ true) → InTime interval p.deadline_monotonic_ms now' → Reached interval n w (prepare n p now') now'
 prepare_reached interval n w p now' l m marks runs t =
     record {
       standing = prepare_stands n w p now' l m marks runs;
-      in_time = subst (λ (d : Deadline). InTime interval d now') (sym (prepare_same (λ r. r.deadline_monotonic_ms) n p now' (λ s c k. refl))) t;
+      in_time = subst (λ (d : Option ℕ). InTime interval d now') (sym (prepare_same (λ r. r.deadline_monotonic_ms) n p now' (λ s c k. refl))) t;
     }
 
 module _ (interval n : ℕ) (w : AcknowledgmentWindow) (p : Progress) (now' : ℕ) (h : Reached interval n w p now') where
@@ -139,9 +133,9 @@ module _ (interval n : ℕ) (w : AcknowledgmentWindow) (p : Progress) (now' : �
       closed : (s : SenderState) → is_closed s ≡ true → Reached interval n w (finish p s) now'
       closed = finish_reached interval n w p now' h.standing.least h.standing.most h.standing.marks
 
-      offered : Reached interval n w (prepare n (until (marking p (again n p p.current) p.received) deadline.Off) now') now'
+      offered : Reached interval n w (prepare n (until (marking p (again n p p.current) p.received) None) now') now'
       offered =
-          prepare_reached interval n w (until (marking p (again n p p.current) p.received) deadline.Off) now' h.standing.least h.standing.most
+          prepare_reached interval n w (until (marking p (again n p p.current) p.received) None) now' h.standing.least h.standing.most
           (record {
             submitted_below = h.standing.marks.submitted_below;
             retry_below = below_again n p p.current h.standing.least (submission_below_lem n w p h.standing) h.standing.marks.retry_below;
@@ -162,7 +156,7 @@ module _ (interval n : ℕ) (w : AcknowledgmentWindow) (p : Progress) (queued no
   counted_marks : MarksLie n (counted interval n w p queued).submitted (counted interval n w p queued).retry (counted interval n w p queued).received
   counted_marks =
       let x = prepared_offers n w p h prepared in
-      let i : index_of p.current < n = subst (λ (c : Current). index_of c < n) (sym x.1) x.3 in
+      let i : index_of p.current < n = subst (λ (c : Option Submission). index_of c < n) (sym x.1) x.3 in
       record {
         submitted_below = below_with n (index_of p.current) p.submitted i h.marks.submitted_below;
         retry_below = below_without n (index_of p.current) p.retry h.marks.retry_below;
@@ -178,10 +172,10 @@ module _ (interval n : ℕ) (w : AcknowledgmentWindow) (p : Progress) (queued no
       let x = prepared_offers n w p h prepared in
       record {
         standing = record { least = h.least; most = h.most; marks = counted_marks; stands = (x.0, x.1, x.3, waits (is_last n p) (prohibited w)) };
-        in_time = either (λ d. InTime interval d now') (sets_deadline n w p) (deadline.At (queued + interval)) deadline.Off (λ e. omega arith) (λ e. tt);
+        in_time = either (λ d. InTime interval d now') (sets_deadline n w p) (Some (queued + interval)) None (λ e. omega arith) (λ e. tt);
       }
     where
-      waits : (a b : Bool) → (running (cond (not (a && b)) (deadline.At (queued + interval)) deadline.Off) || b) ≡ true
+      waits : (a b : Bool) → (running (cond (not (a && b)) (Some (queued + interval)) None) || b) ≡ true
       waits true true = refl
       waits true false = refl
       waits false b = refl
@@ -191,7 +185,7 @@ module _ (interval n : ℕ) (w : AcknowledgmentWindow) (p : Progress) (queued no
 module _ (interval n : ℕ) (w : AcknowledgmentWindow) (p : Progress) (now' : ℕ) (h : Reached interval n w p now') where
   -- what is prepared once the submission is taken
   abbrev taken : Progress
-  taken = offering p p.state current.Nothing p.last_ticket
+  taken = offering p p.state None p.last_ticket
 
   taken_marks : MarksLie n (prepare n taken now').submitted (prepare n taken now').retry (prepare n taken now').received
   taken_marks =
@@ -203,9 +197,9 @@ module _ (interval n : ℕ) (w : AcknowledgmentWindow) (p : Progress) (now' : �
       (λ e. finish_reached interval n w (prepare n taken now') now' h.standing.least h.standing.most taken_marks (Complete LowerLayerAccepted) refl)
       (λ e. prepare_reached interval n w taken now' h.standing.least h.standing.most h.standing.marks (waits e) h.in_time)
     where
-      waits : (awaits_response (prepare n taken now').state && prohibited w) ≡ false → next_pending n p.submitted p.retry ≡ found.Nothing → running p.deadline_monotonic_ms ≡ true
+      waits : (awaits_response (prepare n taken now').state && prohibited w) ≡ false → next_pending n p.submitted p.retry ≡ None → running p.deadline_monotonic_ms ≡ true
       waits e f =
-          let k : prohibited w ≡ false = sym (ap (λ (g : Found). awaits_response (prepare_for g taken now').state && prohibited w) f) ∙ e in
+          let k : prohibited w ≡ false = sym (ap (λ (g : Option ℕ). awaits_response (prepare_for g taken now').state && prohibited w) f) ∙ e in
           let z = accept_awaited n w p h.standing a in
           ⊎_elim (λ (y : running p.deadline_monotonic_ms ≡ true). y) (λ (y : prohibited w ≡ true). absurd (true≢false (sym y ∙ k))) (or_cases (running p.deadline_monotonic_ms) (prohibited w) z.3)
 
@@ -227,7 +221,7 @@ module _ (interval n : ℕ) (w : AcknowledgmentWindow) (p : Progress) (now' : �
 
 module _ (interval n : ℕ) (w : AcknowledgmentWindow) (p : Progress) (now' : ℕ) (h : Reached interval n w p now') where
   -- marks that lie, and something pending unless a deadline runs
-  reprepared : (retry received : Words) → MarksLie n p.submitted retry received → (next_pending n p.submitted retry ≡ found.Nothing → running p.deadline_monotonic_ms ≡ true) → Reached interval n w (reprepare n (marking p retry received) now') now'
+  reprepared : (retry received : Words) → MarksLie n p.submitted retry received → (next_pending n p.submitted retry ≡ None → running p.deadline_monotonic_ms ≡ true) → Reached interval n w (reprepare n (marking p retry received) now') now'
   reprepared retry received marks runs =
       either (λ q. Reached interval n w q now') (awaits_accept p.state) (marking p retry received) (prepare n (marking p retry received) now')
       (λ e. record {
@@ -257,7 +251,7 @@ module _ (interval n : ℕ) (w : AcknowledgmentWindow) (p : Progress) (now' : �
       })
       (runs (running p.deadline_monotonic_ms) timeout told)
     where
-      runs : (b t : Bool) (told : Words) → next_pending n p.submitted (last_if (t || not b) n p.submitted told) ≡ found.Nothing → b ≡ true
+      runs : (b t : Bool) (told : Words) → next_pending n p.submitted (last_if (t || not b) n p.submitted told) ≡ None → b ≡ true
       runs true t told f = refl
       runs false true told f = absurd (last_if_next true n p.submitted told refl h.standing.least h.standing.most f)
       runs false false told f = absurd (last_if_next true n p.submitted told refl h.standing.least h.standing.most f)

@@ -1,8 +1,7 @@
 -- What a refused call leaves of our sender: by 63, then by the rows, then by whether advance has acted. Assumes nothing.
-use Rattle.std.specs.Prelude.{ℕ, ◌-◌, ◌^◌, ◌≤◌, ◌≡◌, List, ◌++◌, Bool, true, false, cond, not, ◌&&◌, ◌||◌, ◌⊎◌, ltb}
+use Rattle.std.specs.Prelude.{ℕ, ◌-◌, ◌^◌, ◌≤◌, ◌≡◌, List, ◌++◌, Bool, true, false, cond, not, ◌&&◌, ◌||◌, ◌⊎◌, ltb, Option, Some, None}
 use Rattle.std.proofs.Math.Path.{refl, ap}
 use Rattle.std.proofs.Common.{sym, ◌∙◌, true≢false, inl, inr, arith, ltb-false, le-leb, leb-true}
-use Rattle.std.proofs.Math.Option.{Option, none, some}
 use Rattle.std.proofs.lemmas.Bool.{not-false}
 use Rattle.tsar.specs.Rows.{Refusal, refusal, either, or_else, refusal_append, refusal_none}
 use Rattle.tsar.specs.Kinds.{prohibited}
@@ -11,8 +10,6 @@ use Rattle.sender.specs.declared.LowerLayerFailure.{LowerLayerFailure}
 use Rattle.sender.specs.declared.SenderFailure.TheVariants.{LowerLayer, SegmentInterval}
 use Rattle.sender.specs.declared.SenderState.TheVariants.{Failed, Complete}
 use Rattle.sender.specs.declared.Completion.TheVariants.{ExceptionIntervalElapsed}
-use Rattle.sender.specs.declared.Deadline.{Deadline}
-use Rattle.sender.specs.declared.Deadline.TheVariants as deadline
 use Rattle.sender.specs.declared.Progress.{Progress}
 use Rattle.sender.specs.declared.Outline.{Outline}
 use Rattle.sender.specs.declared.Arrival.{Arrival}
@@ -29,11 +26,11 @@ abbrev spent : Progress → Bool
 spent p = ltb (2 ^ 64 - 1) p.last_ticket
 
 -- rows behind rows: none of the first holds where none of all does
-first_none : (a b : Option Refusal) → or_else a b ≡ none → a ≡ none
-first_none none b e = refl
-first_none (some n) b e = let z : ◌≡◌ {A = ℕ} 0 1 = cc in absurd (omega arith)
+first_none : (a b : Option Refusal) → or_else a b ≡ None → a ≡ None
+first_none None b e = refl
+first_none (Some n) b e = let z : ◌≡◌ {A = ℕ} 0 1 = cc in absurd (omega arith)
 
-front_none : (cs ds : List (Bool × Refusal)) → refusal (cs ++ ds) ≡ none → refusal cs ≡ none
+front_none : (cs ds : List (Bool × Refusal)) → refusal (cs ++ ds) ≡ None → refusal cs ≡ None
 front_none cs ds e = first_none (refusal cs) (refusal ds) (sym (refusal_append cs ds) ∙ e)
 
 -- an answer is no refusal
@@ -42,12 +39,12 @@ no_refusal p n e = let z : ◌≡◌ {A = ℕ} 0 1 = cc in absurd (omega arith)
 
 module _ (P : Turn → Type 0) (p : Progress) (same : (n : Refusal) → P (refuses n p)) where
   -- by 63, and by the rows
-  by_rows' : (v : Option Refusal) (t : Turn) → (v ≡ none → spent t.progress ≡ false → P t) → P (or_tickets p (on_refusal v p t))
-  by_rows' (some n) t h = either P (spent p) (refuses (63, 0) p) (refuses n p) (λ e. same (63, 0)) (λ e. same n)
-  by_rows' none t h = either P (spent t.progress) (refuses (63, 0) p) t (λ e. same (63, 0)) (λ e. h refl e)
+  by_rows' : (v : Option Refusal) (t : Turn) → (v ≡ None → spent t.progress ≡ false → P t) → P (or_tickets p (on_refusal v p t))
+  by_rows' (Some n) t h = either P (spent p) (refuses (63, 0) p) (refuses n p) (λ e. same (63, 0)) (λ e. same n)
+  by_rows' None t h = either P (spent t.progress) (refuses (63, 0) p) t (λ e. same (63, 0)) (λ e. h refl e)
 
 -- advance that is not refused
-acts : (o : Outline) (p : Progress) (k : ℕ) → refusal (clock_rows o p k) ≡ none → spent (advanced_to o p k) ≡ false → advance_in o p k ≡ left (advanced_to o p k)
+acts : (o : Outline) (p : Progress) (k : ℕ) → refusal (clock_rows o p k) ≡ None → spent (advanced_to o p k) ≡ false → advance_in o p k ≡ left (advanced_to o p k)
 unfolding advance_in
 acts o p k e f =
     ap (λ (v : Option Refusal). or_tickets p (on_refusal v p (left (advanced_to o p k)))) e
@@ -69,12 +66,12 @@ unfolding advanced
 fails_then o p k c d w =
     ap (λ (b : Bool). (read (cond (not b && due p.deadline_monotonic_ms k) (fire o.count o.acknowledgment_window p k) p) k).state) c
     ∙ ap (λ (b : Bool). (read (cond b (fire o.count o.acknowledgment_window p k) p) k).state) d
-    ∙ ap (λ (b : Bool). (cond b (finish p (Failed SegmentInterval)) (cond (is_exceptions o.acknowledgment_window && awaits_response p.state && not (has_pending o.count p.submitted p.retry)) (finish p (Complete ExceptionIntervalElapsed)) (prepare o.count (until (marking p (again o.count p p.current) p.received) deadline.Off) k))).state) w
+    ∙ ap (λ (b : Bool). (cond b (finish p (Failed SegmentInterval)) (cond (is_exceptions o.acknowledgment_window && awaits_response p.state && not (has_pending o.count p.submitted p.retry)) (finish p (Complete ExceptionIntervalElapsed)) (prepare o.count (until (marking p (again o.count p p.current) p.received) None) k))).state) w
 
 -- what is due is due later
-due_later : (d : Deadline) (m n : ℕ) → due d m ≡ true → m ≤ n → due d n ≡ true
-due_later deadline.Off m n e h = e
-due_later (deadline.At d) m n e h = le-leb d n (omega (arith, leb-true d m e, h))
+due_later : (d : Option ℕ) (m n : ℕ) → due d m ≡ true → m ≤ n → due d n ≡ true
+due_later None m n e h = e
+due_later (Some d) m n e h = le-leb d n (omega (arith, leb-true d m e, h))
 
 or_right : (a b : Bool) → (a || b) ≡ false → b ≡ false
 or_right true b e = absurd (true≢false e)
@@ -89,7 +86,7 @@ module _ (s : Sender) where
   same E n m e = inl refl
 
   -- where advance has acted
-  acted : (n : Refusal) (k : ℕ) → refusal (clock_rows (outline s) s.progress k) ≡ none → spent (advanced_to (outline s) s.progress k) ≡ false
+  acted : (n : Refusal) (k : ℕ) → refusal (clock_rows (outline s) s.progress k) ≡ None → spent (advanced_to (outline s) s.progress k) ≡ false
       → (placed s (refuses n (advanced_to (outline s) s.progress k))).sender ≡ (advance_of s k).sender
   unfolding advance_of
   acted n k e f = ap (λ (t : Turn). (placed s t).sender) (sym (acts (outline s) s.progress k e f))
@@ -114,7 +111,7 @@ module _ (s : Sender) where
     abbrev q : Progress
     q = advanced_to (outline s) s.progress k
 
-    word_left : refusal (word_rows s.terms.number (outline s) s.progress number ticket k) ≡ none → (next : Progress)
+    word_left : refusal (word_rows s.terms.number (outline s) s.progress number ticket k) ≡ None → (next : Progress)
         → (b : Bool) → awaits_word s.terms.number q number ticket ≡ b → spent (cond b (left next) (refuses (42, 0) q)).progress ≡ false → Left Stale (cond b (left next) (refuses (42, 0) q))
     word_left e next true w f n r = no_refusal next n r
     word_left e next false w f n r =
@@ -132,7 +129,7 @@ module _ (s : Sender) where
         was true d a = d
         was false d a = absurd (true≢false (sym a ∙ ap (λ (x : Progress). awaits_word s.terms.number x number ticket) (sym (idle (outline s) s.progress k d)) ∙ w))
 
-    after_left : refusal (word_rows s.terms.number (outline s) s.progress number ticket k) ≡ none → (next : Progress)
+    after_left : refusal (word_rows s.terms.number (outline s) s.progress number ticket k) ≡ None → (next : Progress)
         → spent (after_advance s.terms.number number ticket q next).progress ≡ false → Left Stale (after_advance s.terms.number number ticket q next)
     after_left e next f = word_left e next (awaits_word s.terms.number q number ticket) refl f
 
@@ -157,10 +154,10 @@ module _ (s : Sender) where
     window' = prohibited (outline s).acknowledgment_window
 
     count_left : (v : Option Refusal) (next : Progress) → Left Queued (on_refusal v s.progress (left next))
-    count_left (some m) next n e = inl refl
-    count_left none next n e = no_refusal next n e
+    count_left (Some m) next n e = inl refl
+    count_left None next n e = no_refusal next n e
 
-    queued_left : refusal (submitted_rows s.terms.number (outline s) s.progress number ticket queued observed) ≡ none
+    queued_left : refusal (submitted_rows s.terms.number (outline s) s.progress number ticket queued observed) ≡ None
         → (b : Bool) → (window' && due s.progress.deadline_monotonic_ms queued) ≡ b
         → spent (cond b (refuses (44, 0) (advanced_to (outline s) s.progress observed)) (counting interval (outline s).count (outline s).acknowledgment_window s.progress queued observed)).progress ≡ false
         → Left Queued (cond b (refuses (44, 0) (advanced_to (outline s) s.progress observed)) (counting interval (outline s).count (outline s).acknowledgment_window s.progress queued observed))
@@ -191,7 +188,7 @@ module _ (s : Sender) where
     abbrev q' : Progress
     q' = advanced_to (outline s) s.progress a.reading
 
-    late_left : refusal (response_rows_of s.terms (outline s) s.progress a) ≡ none → (l c : Bool) → late s.progress.deadline_monotonic_ms a.reading ≡ l → is_closed q'.state ≡ c
+    late_left : refusal (response_rows_of s.terms (outline s) s.progress a) ≡ None → (l c : Bool) → late s.progress.deadline_monotonic_ms a.reading ≡ l → is_closed q'.state ≡ c
         → spent (cond l (cond c (refuses (38, 0) q') (left (reacted (outline s) q' a))) (left (reacted (outline s) s.progress a))).progress ≡ false
         → Left Closed (cond l (cond c (refuses (38, 0) q') (left (reacted (outline s) q' a))) (left (reacted (outline s) s.progress a)))
     late_left e true true l c f n r =

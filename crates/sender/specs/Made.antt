@@ -1,10 +1,9 @@
 -- What try_new makes: a plan that is given has 2 to 256 segments, so the sender that it makes has the facts of reached senders, and no list of calls
 -- from it is refused with 62. Assumes nothing.
-use Rattle.std.specs.Prelude.{ℕ, ◌≤◌, List, Bool, false, ◌&&◌, ◌||◌, ◌⊎◌, length, eqb}
+use Rattle.std.specs.Prelude.{ℕ, ◌≤◌, List, Bool, false, ◌&&◌, ◌||◌, ◌⊎◌, length, eqb, Option, Some, None}
 use Rattle.std.proofs.Math.Path.{◌≡◌, refl}
 use Rattle.std.proofs.Common.{sym, true≢false, inl, inr, ⊎_elim, arith}
 use Rattle.std.proofs.Math.Bool.{true}
-use Rattle.std.proofs.Math.Option.{Option, none, some}
 use borrow.Author.Tests.{eqb-true, not-false}
 use Rattle.link.specs.Profile.{known_profile}
 use Rattle.tsar.specs.Rows.{Refusal, refusal, refusal_none}
@@ -70,8 +69,8 @@ unfolding try_from_frozen
 frozen_count f message e = go (frozen_refusal (proposing f message)) refl e
   where
     go : (r : Option Refusal) → frozen_refusal (proposing f message) ≡ r → is_frozen (checked_as r (proposing f message)) f ≡ true → (2 ≤ f.count) × (f.count ≤ 256)
-    go (some v) q e = absurd (true≢false (sym e))
-    go none q e = let c = ((accepted_iff (proposing f message)).0 q).cutting in (c.at_least, c.at_most)
+    go (Some v) q e = absurd (true≢false (sym e))
+    go None q e = let c = ((accepted_iff (proposing f message)).0 q).cutting in (c.at_least, c.at_most)
 
 -- a plan that is given
 pub given_count : (p : Plan) (message : List ℕ) → is_given p message ≡ true → (2 ≤ plan_count p) × (plan_count p ≤ 256)
@@ -91,8 +90,8 @@ module _ (t : Terms) (p : Plan) (message : List ℕ) (k : ℕ) (s : SenderState)
   made_terms = go (refusal (try_new_rows t p message)) ok
     where
       go : (r : Option Refusal) → (made_after r t p k).answer ≡ answered s → (made_after r t p k).sender.terms ≡ t
-      go (some v) e = absurd (let z : ◌≡◌ {A = ℕ} 0 1 = cc in omega arith)
-      go none e = refl
+      go (Some v) e = absurd (let z : ◌≡◌ {A = ℕ} 0 1 = cc in omega arith)
+      go None e = refl
 
   -- of a known profile: it passed 64
   pub made_known : known_profile (try_new_of t p message k).sender.terms.profile ≡ true
@@ -100,8 +99,8 @@ module _ (t : Terms) (p : Plan) (message : List ℕ) (k : ℕ) (s : SenderState)
   made_known = go (refusal (try_new_rows t p message)) refl ok
     where
       go : (r : Option Refusal) → refusal (try_new_rows t p message) ≡ r → (made_after r t p k).answer ≡ answered s → known_profile (made_after r t p k).sender.terms.profile ≡ true
-      go (some v) q e = absurd (let z : ◌≡◌ {A = ℕ} 0 1 = cc in omega arith)
-      go none q e = not-false (known_profile t.profile) (refusal_none (try_new_rows t p message) q 2)
+      go (Some v) q e = absurd (let z : ◌≡◌ {A = ℕ} 0 1 = cc in omega arith)
+      go None q e = not-false (known_profile t.profile) (refusal_none (try_new_rows t p message) q 2)
 
 module _ (interval : ℕ) (t : Terms) (p : Plan) (message : List ℕ) (k : ℕ) (s : SenderState) (ok : (try_new_of t p message k).answer ≡ answered s) where
   pub made_reached : ReachedSender interval (try_new_of t p message k).sender
@@ -109,8 +108,8 @@ module _ (interval : ℕ) (t : Terms) (p : Plan) (message : List ℕ) (k : ℕ) 
   made_reached = go (refusal (try_new_rows t p message)) refl ok
     where
       go : (r : Option Refusal) → refusal (try_new_rows t p message) ≡ r → (made_after r t p k).answer ≡ answered s → ReachedSender interval (made_after r t p k).sender
-      go (some v) q e = absurd (let z : ◌≡◌ {A = ℕ} 0 1 = cc in omega arith)
-      go none q e =
+      go (Some v) q e = absurd (let z : ◌≡◌ {A = ℕ} 0 1 = cc in omega arith)
+      go None q e =
           let g = given_count p message (not-false (is_given p message) (refusal_none (try_new_rows t p message) q 3)) in
           first_reached interval t p k g.0 g.1
 

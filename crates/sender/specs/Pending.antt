@@ -1,5 +1,5 @@
 -- Laws of the marks of n segments: which words have no mark at or past n, and when some segment is pending. Assumes nothing.
-use Rattle.std.specs.Prelude.{ℕ, suc, ◌-◌, ◌≤◌, ◌<◌, ◌≡◌, refl, Bool, true, false, cond, not, ◌&&◌, ◌||◌, ◌⊎◌, eqb, leb, ltb}
+use Rattle.std.specs.Prelude.{ℕ, suc, ◌-◌, ◌≤◌, ◌<◌, ◌≡◌, refl, Bool, true, false, cond, not, ◌&&◌, ◌||◌, ◌⊎◌, eqb, leb, ltb, Option, Some, None}
 use Rattle.std.proofs.Common.{sym, ap, ◌∙◌, true≢false, inl, inr, ⊎_elim, arith, ltb-true, eqb-true, eq-eqb, lt-ltb}
 use Rattle.std.proofs.Math.Bool.{or-true}
 use Rattle.std.proofs.lemmas.Bool.{lt-leb, not-true, not-false}
@@ -7,12 +7,9 @@ use Rattle.words.specs.Marks.{marked, words_of, no_marks, all_below}
 use Rattle.words.specs.Search.{all_below_true, all_below_false, all_below_all, lowest_nothing}
 use Rattle.words.specs.Laws.{marked_words_of, marked_none}
 use Rattle.words.specs.declared.Words.{Words}
-use Rattle.words.specs.declared.Found.TheVariants as found
+use Rattle.sender.specs.declared.Submission.{Submission}
 use Rattle.response.specs.Responses.{entry_at, is_received}
-use Rattle.response.specs.declared.Acknowledged.TheVariants as entry
 use Rattle.response.specs.declared.AcknowledgmentMap.{AcknowledgmentMap}
-use Rattle.sender.specs.declared.Current.{Current}
-use Rattle.sender.specs.declared.Current.TheVariants as current
 use Rattle.sender.specs.declared.Progress.{Progress}
 use Rattle.sender.specs.Record.{needs, has_pending, next_pending, submission_below, mark_past}
 use Rattle.sender.specs.Steps.{with_last, or_last, unreceived, again, retry_by, marked_retry, marked_received, resent, last_if}
@@ -74,9 +71,9 @@ below_last_if false n s w l h = h
 front : (n i : ℕ) (t : Bool) (w : Words) → i < 256 → Below n w → (ltb i n && t || marked w i) ≡ true → i < n
 front n i t w k h e = ⊎_elim (λ (q : (ltb i n && t) ≡ true). ltb-true i n (and_both (ltb i n) t q).0) (λ (q : marked w i ≡ true). h i k q) (or_cases (ltb i n && t) (marked w i) e)
 
-pub below_again : (n : ℕ) (p : Progress) (c : Current) → 2 ≤ n → submission_below c n ≡ true → Below n p.retry → Below n (again n p c)
-below_again n p (current.Submission x) l b h = below_with n x.index p.retry (ltb-true x.index n b) h
-below_again n p current.Nothing l b h =
+pub below_again : (n : ℕ) (p : Progress) (c : Option Submission) → 2 ≤ n → submission_below c n ≡ true → Below n p.retry → Below n (again n p c)
+below_again n p (Some x) l b h = below_with n x.index p.retry (ltb-true x.index n b) h
+below_again n p None l b h =
     below_or_last n p.submitted (unreceived n p.received p.retry) l
     (below_of n (λ i. (ltb i n && not (marked p.received i)) || marked p.retry i) (λ i k e. front n i (not (marked p.received i)) p.retry k h e))
 
@@ -116,7 +113,7 @@ received_submitted n s m a i k e =
     let all = not-false (all_below 256 (λ i. not (ltb i m.bit_count && marked m.received i && not (ltb i n && marked s i)))) a in
     go (ltb i m.bit_count) (marked m.received i) (ltb i n && marked s i) refl r (all_below_true 256 (λ i. not (ltb i m.bit_count && marked m.received i && not (ltb i n && marked s i))) all i k)
   where
-    go : (b c d : Bool) → (ltb i n && marked s i) ≡ d → is_received (cond b (cond c entry.Received entry.Missing) entry.Unreported) ≡ true → not (b && c && not d) ≡ true → marked s i ≡ true
+    go : (b c d : Bool) → (ltb i n && marked s i) ≡ d → is_received (cond b (cond c (Some true) (Some false)) None) ≡ true → not (b && c && not d) ≡ true → marked s i ≡ true
     go true true true q r h = (and_both (ltb i n) (marked s i) q).1
     go true true false q r h = absurd (true≢false (sym h))
     go true false d q r h = absurd (true≢false (sym r))
@@ -124,24 +121,24 @@ received_submitted n s m a i k e =
 
 -- ---- when some segment is pending
 
-pub pending_next : (n : ℕ) (s w : Words) (i : ℕ) → i < n → needs s w i ≡ true → next_pending n s w ≡ found.Nothing → ⊥
+pub pending_next : (n : ℕ) (s w : Words) (i : ℕ) → i < n → needs s w i ≡ true → next_pending n s w ≡ None → ⊥
 pending_next n s w i l h e = true≢false (sym h ∙ lowest_nothing (needs s w) n e i l)
 
 needs_again : (s w : Words) (i : ℕ) → marked w i ≡ true → needs s w i ≡ true
 needs_again s w i h = ap (λ (t : Bool). not (marked s i) || t) h ∙ or-true (not (marked s i))
 
 -- a segment that is marked to be sent again
-pub marked_next : (n : ℕ) (s w : Words) (i : ℕ) → i < n → marked w i ≡ true → next_pending n s w ≡ found.Nothing → ⊥
+pub marked_next : (n : ℕ) (s w : Words) (i : ℕ) → i < n → marked w i ≡ true → next_pending n s w ≡ None → ⊥
 marked_next n s w i l h = pending_next n s w i l (needs_again s w i h)
 
 -- one that a predicate marks so
-pub made_next : (n : ℕ) (s : Words) (f : ℕ → Bool) (i : ℕ) → n ≤ 256 → i < n → f i ≡ true → next_pending n s (words_of f) ≡ found.Nothing → ⊥
+pub made_next : (n : ℕ) (s : Words) (f : ℕ → Bool) (i : ℕ) → n ≤ 256 → i < n → f i ≡ true → next_pending n s (words_of f) ≡ None → ⊥
 made_next n s f i m l h = marked_next n s (words_of f) i l (marked_words_of f i (omega arith) ∙ h)
 
-pub or_last_next : (n : ℕ) (s w : Words) → 2 ≤ n → n ≤ 256 → next_pending n s (or_last n s w) ≡ found.Nothing → ⊥
+pub or_last_next : (n : ℕ) (s w : Words) → 2 ≤ n → n ≤ 256 → next_pending n s (or_last n s w) ≡ None → ⊥
 or_last_next n s w l m = go (has_pending n s w) refl
   where
-    go : (b : Bool) → has_pending n s w ≡ b → next_pending n s (cond b w (with_last n w)) ≡ found.Nothing → ⊥
+    go : (b : Bool) → has_pending n s w ≡ b → next_pending n s (cond b w (with_last n w)) ≡ None → ⊥
     go true q e =
         let z = all_below_false n (λ i. not (needs s w i)) (not-true (all_below n (λ i. not (needs s w i))) q) in
         pending_next n s w z.0 z.1 (not-false (needs s w z.0) z.2) e
@@ -149,19 +146,19 @@ or_last_next n s w l m = go (has_pending n s w) refl
         made_next n s (λ i. eqb (suc i) n || marked w i) (n - 1) m (omega arith)
         (ap (λ (t : Bool). t || marked w (n - 1)) (eq-eqb (suc (n - 1)) n (omega arith))) e
 
-pub last_if_next : (b : Bool) (n : ℕ) (s w : Words) → b ≡ true → 2 ≤ n → n ≤ 256 → next_pending n s (last_if b n s w) ≡ found.Nothing → ⊥
+pub last_if_next : (b : Bool) (n : ℕ) (s w : Words) → b ≡ true → 2 ≤ n → n ≤ 256 → next_pending n s (last_if b n s w) ≡ None → ⊥
 last_if_next true n s w q l m = or_last_next n s w l m
 last_if_next false n s w q l m = absurd (true≢false (sym q))
 
 -- what is sent again at a due deadline
-pub again_next : (n : ℕ) (p : Progress) (c : Current) → 2 ≤ n → n ≤ 256 → submission_below c n ≡ true → next_pending n p.submitted (again n p c) ≡ found.Nothing → ⊥
-again_next n p (current.Submission x) l m b =
+pub again_next : (n : ℕ) (p : Progress) (c : Option Submission) → 2 ≤ n → n ≤ 256 → submission_below c n ≡ true → next_pending n p.submitted (again n p c) ≡ None → ⊥
+again_next n p (Some x) l m b =
     made_next n p.submitted (λ i. eqb i x.index || marked p.retry i) x.index m (ltb-true x.index n b)
     (ap (λ (t : Bool). t || marked p.retry x.index) (eq-eqb x.index x.index refl))
-again_next n p current.Nothing l m b = or_last_next n p.submitted (unreceived n p.received p.retry) l m
+again_next n p None l m b = or_last_next n p.submitted (unreceived n p.received p.retry) l m
 
 -- where some segment was submitted and all such are sent again
-pub resent_next : (n : ℕ) (s w : Words) → n ≤ 256 → all_below n (λ i. not (marked s i)) ≡ false → next_pending n s (resent n s w) ≡ found.Nothing → ⊥
+pub resent_next : (n : ℕ) (s w : Words) → n ≤ 256 → all_below n (λ i. not (marked s i)) ≡ false → next_pending n s (resent n s w) ≡ None → ⊥
 resent_next n s w m h =
     let z = all_below_false n (λ i. not (marked s i)) h in
     let k = not-false (marked s z.0) z.2 in

@@ -1,19 +1,15 @@
 -- A sender's record: its plan, its marks and the impossible states (62).
-use Rattle.std.specs.Prelude.{ℕ, List, [], ◌∷◌, Bool, true, false, not, ◌&&◌, ◌||◌, leb, ltb}
+use Rattle.std.specs.Prelude.{ℕ, List, [], ◌∷◌, Bool, true, false, not, ◌&&◌, ◌||◌, leb, ltb, Option, Some, None}
 use Rattle.words.specs.Marks.{marked, all_below, lowest_of}
 use Rattle.words.specs.declared.Words.{Words}
-use Rattle.words.specs.declared.Found.{Found}
+use Rattle.sender.specs.declared.Submission.{Submission}
 use Rattle.link.specs.Profile.{known_profile, sender_interval}
 pub use Rattle.tsar.specs.Kinds.{is_exceptions}
 use Rattle.tsar.specs.Rows.{any_of}
 use Rattle.tsar.specs.declared.AcknowledgmentWindow.{AcknowledgmentWindow}
 use Rattle.segmentation.specs.Frozen.{head_at}
-use Rattle.sender.specs.declared.Deadline.{Deadline}
-use Rattle.sender.specs.declared.Deadline.TheVariants as deadline
 use Rattle.sender.specs.declared.PlanForm.TheVariants as form
 use Rattle.sender.specs.declared.Plan.{Plan}
-use Rattle.sender.specs.declared.Current.{Current}
-use Rattle.sender.specs.declared.Current.TheVariants as current
 use Rattle.sender.specs.declared.SenderState.{SenderState}
 use Rattle.sender.specs.declared.SenderState.TheVariants.{Prepared, AwaitingAccept, AwaitingResponse, Complete, Failed, Cancelled}
 use Rattle.sender.specs.declared.Progress.{Progress}
@@ -55,17 +51,17 @@ is_closed (Failed f) = true
 is_closed Cancelled = true
 
 -- late (document 01): the reading is past the deadline; due: at or past it
-abbrev pub late : Deadline → ℕ → Bool
-late deadline.Off now' = false
-late (deadline.At d) now' = ltb d now'
+abbrev pub late : Option ℕ → ℕ → Bool
+late None now' = false
+late (Some d) now' = ltb d now'
 
-abbrev pub due : Deadline → ℕ → Bool
-due deadline.Off now' = false
-due (deadline.At d) now' = leb d now'
+abbrev pub due : Option ℕ → ℕ → Bool
+due None now' = false
+due (Some d) now' = leb d now'
 
-abbrev pub running : Deadline → Bool
-running deadline.Off = false
-running (deadline.At d) = true
+abbrev pub running : Option ℕ → Bool
+running None = false
+running (Some d) = true
 
 -- ---- the plan
 
@@ -96,17 +92,17 @@ abbrev pub has_pending : ℕ → Words → Words → Bool
 has_pending n submitted retry = not (all_below n (λ i. not (needs submitted retry i)))
 
 -- the lowest pending segment
-abbrev pub next_pending : ℕ → Words → Words → Found
+abbrev pub next_pending : ℕ → Words → Words → Option ℕ
 next_pending n submitted retry = lowest_of (needs submitted retry) n
 
-abbrev pub submission_present : Current → Bool
-submission_present current.Nothing = false
-submission_present (current.Submission x) = true
+abbrev pub submission_present : Option Submission → Bool
+submission_present None = false
+submission_present (Some x) = true
 
 -- the present submission is one below n
-abbrev pub submission_below : Current → ℕ → Bool
-submission_below current.Nothing n = true
-submission_below (current.Submission x) n = ltb x.index n
+abbrev pub submission_below : Option Submission → ℕ → Bool
+submission_below None n = true
+submission_below (Some x) n = ltb x.index n
 
 -- ---- 62: the impossible states
 

@@ -1,23 +1,16 @@
 -- What the sender's calls are made of, each on the progress of a sender of n segments: preparing, finishing, advancing, counting a submission
 -- and reacting to a response.
-use Rattle.std.specs.Prelude.{ℕ, suc, ◌+◌, ◌^◌, ◌<◌, ◌≡◌, Bool, true, false, cond, not, ◌&&◌, ◌||◌, eqb, ltb}
+use Rattle.std.specs.Prelude.{ℕ, suc, ◌+◌, Bool, true, false, cond, not, ◌&&◌, ◌||◌, eqb, ltb, Option, Some, None}
 use Rattle.words.specs.Marks.{marked, words_of, no_marks, all_below}
 use Rattle.words.specs.declared.Words.{Words}
-use Rattle.words.specs.declared.Found.{Found}
-use Rattle.words.specs.declared.Found.TheVariants as found
+use Rattle.sender.specs.declared.Submission.{Submission}
 use Rattle.tsar.specs.Kinds.{prohibited}
 use Rattle.tsar.specs.declared.AcknowledgmentWindow.{AcknowledgmentWindow}
 use Rattle.response.specs.Responses.{status_number, entry_at, is_received}
-use Rattle.response.specs.declared.Acknowledged.{Acknowledged}
-use Rattle.response.specs.declared.Acknowledged.TheVariants as entry
 use Rattle.response.specs.declared.AcknowledgmentMap.{AcknowledgmentMap}
 use Rattle.response.specs.declared.Response.{Response}
 use Rattle.response.specs.declared.Status.{Status}
 use Rattle.response.specs.declared.Status.TheVariants as status
-use Rattle.sender.specs.declared.Deadline.{Deadline}
-use Rattle.sender.specs.declared.Deadline.TheVariants as deadline
-use Rattle.sender.specs.declared.Current.{Current}
-use Rattle.sender.specs.declared.Current.TheVariants as current
 use Rattle.sender.specs.declared.Completion.TheVariants.{LowerLayerAccepted, PeerReceived, ExceptionIntervalElapsed}
 use Rattle.sender.specs.declared.SenderFailure.TheVariants.{SegmentInterval, Peer}
 use Rattle.sender.specs.declared.SenderState.{SenderState}
@@ -30,7 +23,7 @@ use Rattle.sender.specs.Record.{is_prepared, awaits_accept, awaits_response, is_
 -- ---- progress with some of it changed
 
 -- the state, the submission and the ticket last given
-abbrev pub offering : Progress → SenderState → Current → ℕ → Progress
+abbrev pub offering : Progress → SenderState → Option Submission → ℕ → Progress
 offering p s c t =
     record {
       state = s;
@@ -60,7 +53,7 @@ marking p retry received =
     }
 
 -- the deadline
-abbrev pub until : Progress → Deadline → Progress
+abbrev pub until : Progress → Option ℕ → Progress
 until p d =
     record {
       state = p.state;
@@ -91,22 +84,22 @@ read p now' =
 
 -- ---- preparing: the lowest pending segment is offered; an offer of it that stands keeps its ticket and its reading
 
-abbrev pub is_at : Current → ℕ → Bool
-is_at current.Nothing i = false
-is_at (current.Submission x) i = eqb x.index i
+abbrev pub is_at : Option Submission → ℕ → Bool
+is_at None i = false
+is_at (Some x) i = eqb x.index i
 
-abbrev pub prepare_for : Found → Progress → ℕ → Progress
-prepare_for found.Nothing p now' = offering p AwaitingResponse current.Nothing p.last_ticket
-prepare_for (found.At i) p now' =
+abbrev pub prepare_for : Option ℕ → Progress → ℕ → Progress
+prepare_for None p now' = offering p AwaitingResponse None p.last_ticket
+prepare_for (Some i) p now' =
     cond (is_prepared p.state && is_at p.current i) p
-    (offering p Prepared (current.Submission (record { ticket = suc p.last_ticket; index = i; prepared_monotonic_ms = now' })) (suc p.last_ticket))
+    (offering p Prepared (Some (record { ticket = suc p.last_ticket; index = i; prepared_monotonic_ms = now' })) (suc p.last_ticket))
 
 abbrev pub prepare : ℕ → Progress → ℕ → Progress
 prepare n p now' = prepare_for (next_pending n p.submitted p.retry) p now'
 
 -- closed: no submission, no deadline
 abbrev pub finish : Progress → SenderState → Progress
-finish p s = until (offering p s current.Nothing p.last_ticket) deadline.Off
+finish p s = until (offering p s None p.last_ticket) None
 
 -- ---- advancing to a reading
 
@@ -122,24 +115,24 @@ abbrev pub unreceived : ℕ → Words → Words → Words
 unreceived n received retry = words_of (λ i. (ltb i n && not (marked received i)) || marked retry i)
 
 -- what is sent again at a due deadline: the present submission; or all that isn't received, or the last
-abbrev pub again : ℕ → Progress → Current → Words
-again n p (current.Submission x) = words_of (λ i. eqb i x.index || marked p.retry i)
-again n p current.Nothing = or_last n p.submitted (unreceived n p.received p.retry)
+abbrev pub again : ℕ → Progress → Option Submission → Words
+again n p (Some x) = words_of (λ i. eqb i x.index || marked p.retry i)
+again n p None = or_last n p.submitted (unreceived n p.received p.retry)
 
 abbrev pub fire : ℕ → AcknowledgmentWindow → Progress → ℕ → Progress
 fire n w p now' =
     cond (prohibited w) (finish p (Failed SegmentInterval))
     (cond (is_exceptions w && awaits_response p.state && not (has_pending n p.submitted p.retry)) (finish p (Complete ExceptionIntervalElapsed))
-    (prepare n (until (marking p (again n p p.current) p.received) deadline.Off) now'))
+    (prepare n (until (marking p (again n p p.current) p.received) None) now'))
 
 unfoldable pub advanced : ℕ → AcknowledgmentWindow → Progress → ℕ → Progress
 advanced n w p now' = read (cond (not (is_closed p.state) && due p.deadline_monotonic_ms now') (fire n w p now') p) now'
 
 -- ---- a submission that the lower layer has queued
 
-abbrev pub index_of : Current → ℕ
-index_of current.Nothing = 0
-index_of (current.Submission x) = x.index
+abbrev pub index_of : Option Submission → ℕ
+index_of None = 0
+index_of (Some x) = x.index
 
 -- no other segment is pending
 abbrev pub is_last : ℕ → Progress → Bool
@@ -160,15 +153,10 @@ counted_as interval sets p queued =
       submitted = words_of (λ j. eqb j i || marked p.submitted j);
       retry = words_of (λ j. not (eqb j i) && marked p.retry j);
       received = p.received;
-      deadline_monotonic_ms = cond sets (deadline.At (queued + interval)) deadline.Off;
+      deadline_monotonic_ms = cond sets (Some (queued + interval)) None;
       last_monotonic_ms = p.last_monotonic_ms;
       layer3_submissions = p.layer3_submissions + 1;
     }
-
--- it can be counted: its deadline and the counter are numbers of 64 bits
-pub record Countable (interval : ℕ) (sets : Bool) (p : Progress) (queued : ℕ) : Type 0 where
-  pub in_time : sets ≡ true → queued + interval < 2 ^ 64
-  pub counts : p.layer3_submissions + 1 < 2 ^ 64
 
 abbrev pub counted : ℕ → ℕ → AcknowledgmentWindow → Progress → ℕ → Progress
 counted interval n w p queued = counted_as interval (sets_deadline n w p) p queued
@@ -176,7 +164,7 @@ counted interval n w p queued = counted_as interval (sets_deadline n w p) p queu
 -- accepted: the next segment is offered; after the last one under Prohibited the sender is complete
 abbrev pub accepted_next : ℕ → AcknowledgmentWindow → Progress → ℕ → Progress
 accepted_next n w p now' =
-    let q = prepare n (offering p p.state current.Nothing p.last_ticket) now' in
+    let q = prepare n (offering p p.state None p.last_ticket) now' in
     cond (awaits_response q.state && prohibited w) (finish q (Complete LowerLayerAccepted)) q
 
 -- cancelled: closed where it is still open
@@ -206,10 +194,10 @@ abbrev pub is_timeout : Status → Bool
 is_timeout s = eqb (status_number s) 1
 
 -- of a submitted segment: received, no more to be sent; missing, again; unreported, again at a timeout and else as before
-abbrev pub retry_by : Acknowledged → Bool → Bool → Bool
-retry_by entry.Received timeout old = false
-retry_by entry.Missing timeout old = true
-retry_by entry.Unreported timeout old = timeout || old
+abbrev pub retry_by : Option Bool → Bool → Bool → Bool
+retry_by (Some true) timeout old = false
+retry_by (Some false) timeout old = true
+retry_by None timeout old = timeout || old
 
 abbrev pub marked_retry : ℕ → Words → Words → AcknowledgmentMap → Bool → Words
 marked_retry n submitted retry m timeout =

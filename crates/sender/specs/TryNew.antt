@@ -1,6 +1,7 @@
 -- What try_new answers and leaves, with 40, and the submission that a sender offers: document 01, 'Refusals' 40, and 'Port order' 4.
-use Rattle.std.specs.Prelude.{ℕ, List, [], ◌∷◌, Bool, true, false, cond, not, ◌&&◌, ◌||◌, length, eqb, ltb}
-use Rattle.std.proofs.Math.Option.{Option, none, some}
+use Rattle.std.specs.Prelude.{ℕ, List, [], ◌∷◌, Bool, true, false, cond, not, ◌&&◌, ◌||◌, length, eqb, ltb, Option, Some, None}
+use Rattle.sender.specs.declared.Offered.{Offered}
+use Rattle.segmentation.specs.declared.PlannedPart.{PlannedPart}
 use Rattle.words.specs.Marks.{no_marks}
 use Rattle.link.specs.Peer.{identity_refused, protocol_served}
 use Rattle.link.specs.Profile.{known_profile}
@@ -14,20 +15,13 @@ use Rattle.segmentation.specs.Plan.{Planning, refused as plan_refused, unsegment
 use Rattle.segmentation.specs.Frozen.{Proposal, Checked, try_from_frozen, frozen_segment_at, no_plan}
 use Rattle.segmentation.specs.declared.SegmentedMessage.{SegmentedMessage}
 use Rattle.segmentation.specs.declared.FrozenMessage.{FrozenMessage}
-use Rattle.segmentation.specs.declared.PlannedSegment.{PlannedSegment}
-use Rattle.segmentation.specs.declared.PlannedSegment.TheVariants as planned
-use Rattle.sender.specs.declared.Deadline.TheVariants as deadline
 use Rattle.sender.specs.declared.PlanForm.TheVariants as form
 use Rattle.sender.specs.declared.Plan.{Plan}
 use Rattle.sender.specs.declared.Submission.{Submission}
-use Rattle.sender.specs.declared.Current.{Current}
-use Rattle.sender.specs.declared.Current.TheVariants as current
 use Rattle.sender.specs.declared.SenderState.TheVariants.{Prepared, Cancelled}
 use Rattle.sender.specs.declared.Terms.{Terms}
 use Rattle.sender.specs.declared.Progress.{Progress}
 use Rattle.sender.specs.declared.Sender.{Sender}
-use Rattle.sender.specs.declared.Offer.{Offer}
-use Rattle.sender.specs.declared.Offer.TheVariants as offer
 use Rattle.sender.specs.Record.{same_bool, is_prepared}
 use Rattle.sender.specs.Calls.{Step, refused, left, placed}
 
@@ -72,8 +66,8 @@ proposing f message =
     }
 
 abbrev pub is_none : Option Refusal → Bool
-is_none none = true
-is_none (some n) = false
+is_none None = true
+is_none (Some n) = false
 
 -- whether two heads, and two lists of them, are the same
 abbrev pub same_head : SegmentHead → SegmentHead → Bool
@@ -125,12 +119,12 @@ abbrev pub first_offer : ℕ → Progress
 first_offer now' =
     record {
       state = Prepared;
-      current = current.Submission (record { ticket = 0; index = 0; prepared_monotonic_ms = now' });
+      current = Some (record { ticket = 0; index = 0; prepared_monotonic_ms = now' });
       last_ticket = 0;
       submitted = no_marks;
       retry = no_marks;
       received = no_marks;
-      deadline_monotonic_ms = deadline.Off;
+      deadline_monotonic_ms = None;
       last_monotonic_ms = now';
       layer3_submissions = 0;
     }
@@ -145,12 +139,12 @@ no_sender =
       terms = record { peer = record { kind = 0; width = 0; value = 0 }; protocol = Segmented 0; version = 0; profile = 1; number = 0 };
       progress = record {
         state = Cancelled;
-        current = current.Nothing;
+        current = None;
         last_ticket = 0;
         submitted = no_marks;
         retry = no_marks;
         received = no_marks;
-        deadline_monotonic_ms = deadline.Off;
+        deadline_monotonic_ms = None;
         last_monotonic_ms = 0;
         layer3_submissions = 0;
       };
@@ -158,8 +152,8 @@ no_sender =
     }
 
 abbrev pub made_after : Option Refusal → Terms → Plan → ℕ → Step
-made_after (some n) t p now' = record { answer = refused n; sender = no_sender }
-made_after none t p now' = placed (first_sender t p now') (left (first_offer now'))
+made_after (Some n) t p now' = record { answer = refused n; sender = no_sender }
+made_after None t p now' = placed (first_sender t p now') (left (first_offer now'))
 
 unfoldable pub try_new_of : Terms → Plan → List ℕ → ℕ → Step
 try_new_of t p message now' = made_after (refusal (try_new_rows t p message)) t p now'
@@ -167,17 +161,17 @@ try_new_of t p message now' = made_after (refusal (try_new_rows t p message)) t 
 -- ---- the submission that is offered
 
 -- segment i of a plan
-abbrev pub plan_segment : Plan → ℕ → PlannedSegment
+abbrev pub plan_segment : Plan → ℕ → Option PlannedPart
 plan_segment p i = elim p.form [ form.Planned q ↦ segment_at q i | form.Frozen ↦ frozen_segment_at p.frozen i ]
 
-abbrev pub offered : ℕ → Submission → PlannedSegment → Offer
-offered number x planned.NoSegment = offer.Nothing
-offered number x (planned.Segment y) = offer.Submission (record { number = number; ticket = x.ticket; index = x.index; part = y })
+abbrev pub offered : ℕ → Submission → Option PlannedPart → Option Offered
+offered number x None = None
+offered number x (Some y) = Some (record { number = number; ticket = x.ticket; index = x.index; part = y })
 
-abbrev pub offer_in : Sender → Current → Offer
-offer_in s current.Nothing = offer.Nothing
-offer_in s (current.Submission x) = cond (is_prepared s.progress.state) (offered s.terms.number x (plan_segment s.plan x.index)) offer.Nothing
+abbrev pub offer_in : Sender → Option Submission → Option Offered
+offer_in s None = None
+offer_in s (Some x) = cond (is_prepared s.progress.state) (offered s.terms.number x (plan_segment s.plan x.index)) None
 
 -- only a Prepared sender offers one
-unfoldable pub offer_of : Sender → Offer
+unfoldable pub offer_of : Sender → Option Offered
 offer_of s = offer_in s s.progress.current

@@ -1,227 +1,194 @@
 // The refusals of the calls, in document 01's order.
-ghost use Rattle.std.specs.Prelude.{◌≡◌, ◌||◌, ◌≤◌};
+ghost use Rattle.std.specs.Prelude.{◌≡◌, IfOk};
 ghost use Rattle.tsar.specs.Rows.{refusal};
-ghost use Rattle.sender.specs.Record.{mark_past, impossible, impossible_in};
-ghost use Rattle.sender.specs.Calls.{clock_rows, submitted_rows, count_rows, word_rows, arrival_rows, entry_rows, response_rows_of};
+ghost use Rattle.sender.specs.Record.{impossible};
+ghost use Rattle.sender.specs.Calls.{clock_rows, submitted_rows, word_rows, awaits_word, arrival_rows, entry_rows, response_rows_of};
+ghost use Rattle.sender.specs.TryNew.{try_new_rows};
 ghost use Rattle.sender.specs.Says.{checked_by};
 
-use crate::marks::{acknowledges_unsubmitted, is_gap, mark_past, none_submitted};
-use crate::state::{both, either, is_prohibited, is_received, same};
-use crate::{
-    Arrival, Check, MAX_READING_MS, MAX_SEGMENTS, MAX_SUBMISSIONS, MIN_SEGMENTS, Outline, Progress,
-    SenderError, Terms,
-};
+use crate::course::Course;
+use crate::state::Token;
+use crate::{Arrival, Outline, PV1, Plan, Progress, SenderError, Terms};
 use link::profiles::known_profile;
-use response::Response;
-use tsar::Validated;
+use response::{Response, Status};
+use tsar::Error;
+
+impl Terms {
+    // 30, 31, 64, 40; of the codec only the version is left.
+    pub(crate) fn check(self, plan: Plan, message: &[u8]) -> Result<(), SenderError>
+        ensures { checked_by result ≡ refusal (try_new_rows self plan message.now) }
+    {
+        if self.peer.refused() {
+            return Err(SenderError::Identity);
+        }
+        if !self.protocol.served() {
+            return Err(SenderError::Service);
+        }
+        if !known_profile(self.profile) {
+            return Err(SenderError::Profile);
+        }
+        if !plan.is_given(message) {
+            return Err(SenderError::Plan);
+        }
+        if self.version < PV1 {
+            return Err(SenderError::Codec(Error::Version));
+        }
+        Ok(())
+    }
+}
 
 impl Progress {
-    // A mark of the three at or past n.
-    fn marks_past(self, n: u16) -> bool
-        ensures { result ≡ (mark_past self.submitted n || (mark_past self.retry n || mark_past self.received n)) }
+    // 62: what no call leaves, in a sender of such a plan.
+    #[tactic(auto, unfolding(crate::specs::Record::impossible))]
+    fn is_impossible(self, course: Course) -> bool
+        ensures { result ≡ impossible course.outline.count self }
     {
-        let submitted = self.submitted;
-        let retry = self.retry;
-        let received = self.received;
-        if mark_past(submitted, n) {
+        let open = self.state.is_prepared() || self.state.awaits_accept();
+        if self.current.is_some() != open {
             return true;
         }
-        if mark_past(retry, n) {
+        if self
+            .current
+            .is_some_and(|x| course.outline.count <= usize::from(x.index))
+        {
             return true;
         }
-        mark_past(received, n)
-    }
-
-    // 62: what no call leaves, in a sender of so many segments.
-    fn impossible(self, count: usize) -> bool
-        ensures { result ≡ impossible count self }
-    {
-        if either(count < MIN_SEGMENTS, MAX_SEGMENTS < count) {
+        if course.mark_past(self.submitted)
+            || course.mark_past(self.retry)
+            || course.mark_past(self.received)
+        {
             return true;
         }
-        let state = self.state;
-        let current = self.current;
-        let deadline = self.deadline_monotonic_ms;
-        let open = either(state.prepared(), state.awaits_accept());
-        if !same(current.present(), open) {
-            return true;
-        }
-        if !current.below(count) {
-            return true;
-        }
-        if self.marks_past(count as u16) {
-            return true;
-        }
-        both(state.closed(), deadline.running())
-    }
-
-    // 62: document 01's list, and a profile that is neither.
-    fn impossible_in(self, outline: Outline) -> bool
-        ensures { result ≡ impossible_in outline self }
-    {
-        if self.impossible(outline.count) {
-            return true;
-        }
-        !known_profile(outline.profile)
+        self.state.is_closed() && self.deadline_monotonic_ms.is_some()
     }
 
     // 62, 33.
-    pub(crate) fn check_clock(self, outline: Outline, monotonic_ms: u64) -> Check
-        ensures { checked_by result ≡ refusal (clock_rows outline self monotonic_ms) }
+    #[tactic(auto, unfolding(crate::specs::Record::impossible))]
+    pub(crate) fn check_clock(
+        self,
+        outline: Outline,
+        monotonic_ms: u64,
+    ) -> Result<Course, SenderError>
+        ensures rows { checked_by result ≡ refusal (clock_rows outline self monotonic_ms) }
+        ensures course { IfOk result (λ course. course.outline ≡ outline) }
     {
-        if self.impossible_in(outline) {
-            return Check::Refuse(SenderError::ImpossibleState);
+        let course = Course::of(outline).ok_or(SenderError::ImpossibleState)?;
+        if self.is_impossible(course) || !known_profile(outline.profile) {
+            return Err(SenderError::ImpossibleState);
         }
         if monotonic_ms < self.last_monotonic_ms {
-            return Check::Refuse(SenderError::ClockRegression);
+            return Err(SenderError::ClockRegression);
         }
-        Check::Pass
+        Ok(course)
     }
 
     // 62, 33, 38, 42, 44.
     pub(crate) fn check_submitted(
         self,
-        own: u64,
+        token: Token,
         outline: Outline,
-        number: u64,
-        ticket: u64,
         queued_monotonic_ms: u64,
         observed_monotonic_ms: u64,
-    ) -> Check
-        ensures { checked_by result ≡ refusal (submitted_rows own outline self number ticket queued_monotonic_ms observed_monotonic_ms) }
+    ) -> Result<Course, SenderError>
+        ensures rows { checked_by result ≡ refusal (submitted_rows token.own outline self token.number token.ticket queued_monotonic_ms observed_monotonic_ms) }
+        ensures course { IfOk result (λ course. course.outline ≡ outline) }
     {
-        match self.check_clock(outline, observed_monotonic_ms) {
-            Check::Refuse(e) => Check::Refuse(e),
-            Check::Pass => {
-                let state = self.state;
-                let current = self.current;
-                if state.closed() {
-                    return Check::Refuse(SenderError::Closed);
-                }
-                if !both(state.prepared(), current.owned(own, number, ticket)) {
-                    return Check::Refuse(SenderError::StaleSubmission);
-                }
-                let prepared = current.prepared_at();
-                if either(
-                    queued_monotonic_ms < prepared,
-                    observed_monotonic_ms < queued_monotonic_ms,
-                ) {
-                    return Check::Refuse(SenderError::ReceiptTime);
-                }
-                Check::Pass
-            }
+        let course = self.check_clock(outline, observed_monotonic_ms)?;
+        if self.state.is_closed() {
+            return Err(SenderError::Closed);
         }
+        if !(self.state.is_prepared() && self.owns(token)) {
+            return Err(SenderError::StaleSubmission);
+        }
+        if queued_monotonic_ms < self.prepared_at() || observed_monotonic_ms < queued_monotonic_ms {
+            return Err(SenderError::ReceiptTime);
+        }
+        Ok(course)
     }
 
-    // 34, 41. `sets`: the submission sets a deadline.
-    pub(crate) fn check_count(self, interval: u64, sets: bool, queued_monotonic_ms: u64) -> Check
-        ensures { checked_by result ≡ refusal (count_rows interval sets self queued_monotonic_ms) }
+    // The lower layer's word on the submission is awaited.
+    pub(crate) fn awaits_word(self, token: Token) -> bool
+        ensures { result ≡ awaits_word token.own self token.number token.ticket }
     {
-        let latest = MAX_READING_MS - interval;
-        if both(sets, latest < queued_monotonic_ms) {
-            return Check::Refuse(SenderError::TimeOverflow);
-        }
-        if MAX_SUBMISSIONS <= self.layer3_submissions {
-            return Check::Refuse(SenderError::CounterOverflow);
-        }
-        Check::Pass
+        self.state.awaits_accept() && self.owns(token)
     }
 
     // 62, 33, 38, 42.
     pub(crate) fn check_word(
         self,
-        own: u64,
+        token: Token,
         outline: Outline,
-        number: u64,
-        ticket: u64,
         monotonic_ms: u64,
-    ) -> Check
-        ensures { checked_by result ≡ refusal (word_rows own outline self number ticket monotonic_ms) }
+    ) -> Result<Course, SenderError>
+        ensures rows { checked_by result ≡ refusal (word_rows token.own outline self token.number token.ticket monotonic_ms) }
+        ensures course { IfOk result (λ course. course.outline ≡ outline) }
     {
-        match self.check_clock(outline, monotonic_ms) {
-            Check::Refuse(e) => Check::Refuse(e),
-            Check::Pass => {
-                let state = self.state;
-                let current = self.current;
-                if state.closed() {
-                    return Check::Refuse(SenderError::Closed);
-                }
-                if !both(state.awaits_accept(), current.owned(own, number, ticket)) {
-                    return Check::Refuse(SenderError::StaleSubmission);
-                }
-                Check::Pass
-            }
+        let course = self.check_clock(outline, monotonic_ms)?;
+        if self.state.is_closed() {
+            return Err(SenderError::Closed);
         }
+        if !self.awaits_word(token) {
+            return Err(SenderError::StaleSubmission);
+        }
+        Ok(course)
     }
 
     // 38, 45, 31, 47.
-    fn check_arrival(self, terms: Terms, arrival: Arrival) -> Check
+    fn check_arrival(self, terms: Terms, arrival: Arrival) -> Result<(), SenderError>
         ensures { checked_by result ≡ refusal (arrival_rows terms self arrival) }
     {
-        let state = self.state;
-        let peer = arrival.peer;
-        let protocol = arrival.protocol;
-        let own_peer = terms.peer;
-        let own_protocol = terms.protocol;
-        if state.closed() {
-            return Check::Refuse(SenderError::Closed);
+        if self.state.is_closed() {
+            return Err(SenderError::Closed);
         }
-        if !peer.same(own_peer) {
-            return Check::Refuse(SenderError::Peer);
+        if arrival.peer != terms.peer {
+            return Err(SenderError::Peer);
         }
-        if !protocol.same(own_protocol) {
-            return Check::Refuse(SenderError::Service);
+        if arrival.protocol != terms.protocol {
+            return Err(SenderError::Service);
         }
         if arrival.unparsed != 0 {
-            return Check::Refuse(SenderError::UnparsedResponse);
+            return Err(SenderError::UnparsedResponse);
         }
-        Check::Pass
+        Ok(())
     }
 
     // 32, 46, 43, 48, 49.
-    fn check_entries(self, outline: Outline, response: Response) -> Check
-        requires { outline.count ≤ 256 }
-        ensures { checked_by result ≡ refusal (entry_rows outline self response) }
+    fn check_entries(self, course: Course, response: Response) -> Result<(), SenderError>
+        ensures { checked_by result ≡ refusal (entry_rows course.outline self response) }
     {
-        let window = outline.acknowledgment_window;
-        let n = outline.count as u16;
-        let submitted = self.submitted;
         let map = response.acknowledgments;
-        let status = response.status;
-        if response.transaction_id != outline.transaction_id {
-            return Check::Refuse(SenderError::TransactionId);
+        if response.transaction_id != course.outline.transaction_id {
+            return Err(SenderError::TransactionId);
         }
-        if is_prohibited(window) {
-            return Check::Refuse(SenderError::ResponsesProhibited);
+        if course.is_prohibited() {
+            return Err(SenderError::ResponsesProhibited);
         }
-        if none_submitted(n, submitted) {
-            return Check::Refuse(SenderError::NotSubmitted);
+        if self.none_submitted(course) {
+            return Err(SenderError::NotSubmitted);
         }
-        if acknowledges_unsubmitted(n, submitted, map) {
-            return Check::Refuse(SenderError::UnsubmittedAcknowledgment);
+        if self.acknowledges_unsubmitted(course, map) {
+            return Err(SenderError::UnsubmittedAcknowledgment);
         }
-        if both(is_received(status), is_gap(n, submitted, map)) {
-            return Check::Refuse(SenderError::ContradictoryReceipt);
+        if response.status == Status::Received && self.is_gap(course, map) {
+            return Err(SenderError::ContradictoryReceipt);
         }
-        Check::Pass
+        Ok(())
     }
 
     // 62, 33, 38, 45, 31, 47, codec, 32, 46, 43, 48, 49.
-    pub(crate) fn check_response(self, terms: Terms, outline: Outline, arrival: Arrival) -> Check
-        ensures { checked_by result ≡ refusal (response_rows_of terms outline self arrival) }
+    pub(crate) fn check_response(
+        self,
+        terms: Terms,
+        outline: Outline,
+        arrival: Arrival,
+    ) -> Result<Course, SenderError>
+        ensures rows { checked_by result ≡ refusal (response_rows_of terms outline self arrival) }
+        ensures course { IfOk result (λ course. course.outline ≡ outline) }
     {
-        match self.check_clock(outline, arrival.reading) {
-            Check::Refuse(e) => Check::Refuse(e),
-            Check::Pass => match self.check_arrival(terms, arrival) {
-                Check::Refuse(e) => Check::Refuse(e),
-                Check::Pass => {
-                    let response = arrival.response;
-                    match response.validate(terms.version) {
-                        Validated::Refused(e) => Check::Refuse(SenderError::Codec(e)),
-                        Validated::Valid => self.check_entries(outline, response),
-                    }
-                }
-            },
-        }
+        let course = self.check_clock(outline, arrival.reading)?;
+        self.check_arrival(terms, arrival)?;
+        arrival.response.validate(terms.version)?;
+        self.check_entries(course, arrival.response)?;
+        Ok(course)
     }
 }

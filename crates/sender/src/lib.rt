@@ -2,32 +2,26 @@
 #![tactic(auto)]
 
 ghost use Rattle.std.specs.Prelude.{◌≡◌};
-ghost use Rattle.sender.specs.Numbers.{sender_number};
-ghost use Rattle.sender.specs.Record.{interval_of};
-ghost use Rattle.sender.specs.Calls.{refused, placed, advance_of, cancel_of, submitted_of, accepted_of, lower_failed_of, receive_response_of};
-ghost use Rattle.sender.specs.TryNew.{first_offer, no_sender, try_new_of, offered as offered_of, offer_of};
-ghost use Rattle.sender.specs.Says.{sent, turned};
+ghost use Rattle.sender.specs.Record.{interval_of, outline};
+ghost use Rattle.sender.specs.Calls.{placed, advance_of, cancel_of, submitted_of, accepted_of, lower_failed_of, receive_response_of};
+ghost use Rattle.sender.specs.TryNew.{first_offer, no_sender, try_new_of, offer_of};
+ghost use Rattle.sender.specs.Says.{sent, turned_by};
 
-use link::profiles::known_profile;
+use crate::state::Token;
 use link::{HigherLayerProtocol, MobileIdentity};
 use response::{Response, Status};
-use segmentation::{FrozenMessage, PlannedPart, PlannedSegment, SegmentedMessage};
+use segmentation::frozen::no_plan;
+use segmentation::{FrozenMessage, PlannedPart, SegmentedMessage};
 use tsar::{AcknowledgmentWindow, Error};
 use words::Words;
 
 mod checks;
+mod course;
 mod marks;
 mod plans;
 mod state;
 mod steps;
 mod turns;
-
-// The highest reading of the clock.
-const MAX_READING_MS: u64 = 18_446_744_073_709_551_615;
-
-const MAX_TICKET: u64 = 18_446_744_073_709_551_615;
-
-const MAX_SUBMISSIONS: u64 = 18_446_744_073_709_551_615;
 
 // The lowest version: Pv1.
 const PV1: u8 = 1;
@@ -36,12 +30,7 @@ const MIN_SEGMENTS: usize = 2;
 
 const MAX_SEGMENTS: usize = 256;
 
-// The numbers of two statuses.
-const INTER_SEGMENT_TIMEOUT: u8 = 1;
-
-const RECEIVED: u8 = 10;
-
-// The reaction to each of the 14 statuses, by number.
+// The reaction to each of the 14 statuses, by number: a table, as document 01 has it ('Our forms for each place').
 const REACTIONS: [Reaction; 14] = [
     Reaction::Marks, // Continuing
     Reaction::Marks, // InterSegmentTimeout
@@ -59,28 +48,28 @@ const REACTIONS: [Reaction; 14] = [
     Reaction::Fails, // MultipleServicesUnsupported
 ];
 
-#[derive(Clone, Copy)]
+#[derive(Clone, Copy, Debug, PartialEq, Eq)]
 pub enum Completion {
     LowerLayerAccepted,
     PeerReceived,
     ExceptionIntervalElapsed,
 }
 
-#[derive(Clone, Copy)]
+#[derive(Clone, Copy, Debug, PartialEq, Eq)]
 pub enum LowerLayerFailure {
     Rejected { cause: u8 },
     TimedOut,
     Cancelled,
 }
 
-#[derive(Clone, Copy)]
+#[derive(Clone, Copy, Debug, PartialEq, Eq)]
 pub enum SenderFailure {
     SegmentInterval,
     LowerLayer(LowerLayerFailure),
     Peer(Status),
 }
 
-#[derive(Clone, Copy)]
+#[derive(Clone, Copy, Debug, PartialEq, Eq)]
 pub enum SenderState {
     Prepared,
     AwaitingAccept,
@@ -90,14 +79,7 @@ pub enum SenderState {
     Cancelled,
 }
 
-// The source's Option<u64>.
-#[derive(Clone, Copy)]
-pub enum Deadline {
-    Off,
-    At(u64),
-}
-
-// A plan of a planner, or that the plan is the frozen one beside it.
+// A plan of a planner, or that the plan is the frozen one beside it. No Option: `given_iff` (specs/Exact) speaks of both variants.
 #[derive(Clone, Copy)]
 pub enum PlanForm {
     Planned(SegmentedMessage),
@@ -112,22 +94,16 @@ pub struct Plan {
 }
 
 // The submission that a sender offers or awaits word of: the source's Option<Submission>.
-#[derive(Clone, Copy)]
+#[derive(Clone, Copy, Debug, PartialEq, Eq)]
 pub struct Submission {
     pub ticket: u64,
     pub index: u8,
     pub prepared_monotonic_ms: u64,
 }
 
-#[derive(Clone, Copy)]
-pub enum Current {
-    Nothing,
-    Submission(Submission),
-}
-
 // What try_new fixes, but for the plan. The profile says how long the sender waits; a record can have any number there, and one of neither profile is
 // impossible. The sender number and a ticket are the source's token.
-#[derive(Clone, Copy)]
+#[derive(Clone, Copy, Debug, PartialEq, Eq)]
 pub struct Terms {
     pub peer: MobileIdentity,
     pub protocol: HigherLayerProtocol,
@@ -139,12 +115,12 @@ pub struct Terms {
 #[derive(Clone, Copy)]
 pub struct Progress {
     pub state: SenderState,
-    pub current: Current,
+    pub current: Option<Submission>,
     pub last_ticket: u64,
     pub submitted: Words,
     pub retry: Words,
     pub received: Words,
-    pub deadline_monotonic_ms: Deadline,
+    pub deadline_monotonic_ms: Option<u64>,
     pub last_monotonic_ms: u64,
     pub layer3_submissions: u64,
 }
@@ -157,7 +133,7 @@ pub struct Sender {
 }
 
 // The last three are document 01's 62 and 63 and 2026-11's 64, which the source has not.
-#[derive(Clone, Copy)]
+#[derive(Clone, Copy, Debug, PartialEq, Eq)]
 pub enum SenderError {
     Identity,
     Plan,
@@ -181,21 +157,25 @@ pub enum SenderError {
     Profile,
 }
 
-#[derive(Clone, Copy)]
-pub enum SenderAnswer {
-    State(SenderState),
-    Refused(SenderError),
+impl From<Error> for SenderError {
+    ghost use Rattle.sender.specs.declared.SenderError.TheVariants.{Codec};
+
+    ghost from_gives = { λ e r. r ≡ Codec e };
+
+    fn from(e: Error) -> SenderError {
+        SenderError::Codec(e)
+    }
 }
 
 // What a call gives: the answer, and the sender as the call leaves it.
 #[derive(Clone, Copy)]
 pub struct Sent {
-    pub answer: SenderAnswer,
+    pub answer: Result<SenderState, SenderError>,
     pub sender: Sender,
 }
 
 // What the calls read of the plan, and the profile.
-#[derive(Clone, Copy)]
+#[derive(Clone, Copy, Debug, PartialEq, Eq)]
 pub struct Outline {
     pub count: usize,
     pub acknowledgment_window: AcknowledgmentWindow,
@@ -214,7 +194,7 @@ pub struct Arrival {
 }
 
 // The reaction to a status.
-#[derive(Clone, Copy)]
+#[derive(Clone, Copy, Debug, PartialEq, Eq)]
 pub enum Reaction {
     Completes,
     Marks,
@@ -222,29 +202,15 @@ pub enum Reaction {
     Fails,
 }
 
-// What a step leaves, unless a new submission would need ticket 2^64.
-#[derive(Clone, Copy)]
-pub enum Moved {
-    NoTicket,
-    To(Progress),
-}
-
-// What a check finds: nothing, or the first test that fails.
-#[derive(Clone, Copy)]
-pub enum Check {
-    Pass,
-    Refuse(SenderError),
-}
-
 // What a call gives, of the progress alone.
 #[derive(Clone, Copy)]
 pub struct Turned {
-    pub answer: SenderAnswer,
+    pub answer: Result<SenderState, SenderError>,
     pub progress: Progress,
 }
 
 // The submission that a Prepared sender offers: its token, its index and its segment.
-#[derive(Clone, Copy)]
+#[derive(Clone, Copy, Debug, PartialEq, Eq)]
 pub struct Offered {
     pub number: u64,
     pub ticket: u64,
@@ -252,18 +218,10 @@ pub struct Offered {
     pub part: PlannedPart,
 }
 
-#[derive(Clone, Copy)]
-pub enum Offer {
-    Nothing,
-    Submission(Offered),
-}
-
 // In the sender beside a refusal of try_new: cancelled, of no peer and no plan.
 fn no_sender() -> Sender
     ensures { result ≡ no_sender }
 {
-    let none = Words::none();
-    let frozen = plans::no_frozen();
     Sender {
         terms: Terms {
             peer: MobileIdentity {
@@ -278,29 +236,13 @@ fn no_sender() -> Sender
         },
         progress: Progress {
             state: SenderState::Cancelled,
-            current: Current::Nothing,
-            last_ticket: 0,
-            submitted: none,
-            retry: none,
-            received: none,
-            deadline_monotonic_ms: Deadline::Off,
-            last_monotonic_ms: 0,
-            layer3_submissions: 0,
+            current: None,
+            ..first_offer(0)
         },
         plan: Plan {
             form: PlanForm::Frozen,
-            frozen,
+            frozen: no_plan(),
         },
-    }
-}
-
-fn not_made(e: SenderError) -> Sent
-    ensures { sent result ≡ record { answer = refused (sender_number e); sender = no_sender } }
-{
-    let sender = no_sender();
-    Sent {
-        answer: SenderAnswer::Refused(e),
-        sender,
     }
 }
 
@@ -308,41 +250,26 @@ fn not_made(e: SenderError) -> Sent
 fn first_offer(monotonic_ms: u64) -> Progress
     ensures { result ≡ first_offer monotonic_ms }
 {
-    let none = Words::none();
     Progress {
         state: SenderState::Prepared,
-        current: Current::Submission(Submission {
+        current: Some(Submission {
             ticket: 0,
             index: 0,
             prepared_monotonic_ms: monotonic_ms,
         }),
         last_ticket: 0,
-        submitted: none,
-        retry: none,
-        received: none,
-        deadline_monotonic_ms: Deadline::Off,
+        submitted: Words::none(),
+        retry: Words::none(),
+        received: Words::none(),
+        deadline_monotonic_ms: None,
         last_monotonic_ms: monotonic_ms,
         layer3_submissions: 0,
     }
 }
 
-// A submission with its segment.
-fn offer_of(number: u64, x: Submission, segment: PlannedSegment) -> Offer
-    ensures { result ≡ offered_of number x segment }
-{
-    match segment {
-        PlannedSegment::NoSegment => Offer::Nothing,
-        PlannedSegment::Segment(part) => Offer::Submission(Offered {
-            number,
-            ticket: x.ticket,
-            index: x.index,
-            part,
-        }),
-    }
-}
-
 impl Sender {
     // The message is the plan's, its segments joined; the number tells this sender from others.
+    #[tactic(auto, unfolding(crate::specs::TryNew::try_new_of))]
     pub fn try_new(
         peer: MobileIdentity,
         protocol: HigherLayerProtocol,
@@ -355,22 +282,6 @@ impl Sender {
     ) -> Sent
         ensures { sent result ≡ try_new_of (record { peer = peer; protocol = protocol; version = version; profile = profile; number = number }) plan message.now monotonic_ms }
     {
-        if peer.refused() {
-            return not_made(SenderError::Identity);
-        }
-        if !protocol.served() {
-            return not_made(SenderError::Service);
-        }
-        if !known_profile(profile) {
-            return not_made(SenderError::Profile);
-        }
-        if !plan.is_given(message) {
-            return not_made(SenderError::Plan);
-        }
-        if version < PV1 {
-            return not_made(SenderError::Codec(Error::Version));
-        }
-        let progress = first_offer(monotonic_ms);
         let terms = Terms {
             peer,
             protocol,
@@ -378,11 +289,17 @@ impl Sender {
             profile,
             number,
         };
+        if let Err(e) = terms.check(plan, message) {
+            return Sent {
+                answer: Err(e),
+                sender: no_sender(),
+            };
+        }
         Sent {
-            answer: SenderAnswer::State(SenderState::Prepared),
+            answer: Ok(SenderState::Prepared),
             sender: Sender {
                 terms,
-                progress,
+                progress: first_offer(monotonic_ms),
                 plan,
             },
         }
@@ -391,15 +308,13 @@ impl Sender {
     pub fn state(self) -> SenderState
         ensures { result ≡ self.progress.state }
     {
-        let progress = self.progress;
-        progress.state
+        self.progress.state
     }
 
-    pub fn deadline_monotonic_ms(self) -> Deadline
+    pub fn deadline_monotonic_ms(self) -> Option<u64>
         ensures { result ≡ self.progress.deadline_monotonic_ms }
     {
-        let progress = self.progress;
-        progress.deadline_monotonic_ms
+        self.progress.deadline_monotonic_ms
     }
 
     pub fn layer3_submissions(self) -> u64
@@ -409,53 +324,76 @@ impl Sender {
     }
 
     // The submission that is offered: only while Prepared.
-    pub fn submission(self) -> Offer
+    #[tactic(auto, unfolding(crate::specs::TryNew::offer_of))]
+    pub fn submission(self) -> Option<Offered>
         ensures { result ≡ offer_of self }
     {
-        let progress = self.progress;
-        let state = progress.state;
-        let current = progress.current;
-        match current {
-            Current::Nothing => Offer::Nothing,
-            Current::Submission(x) => {
-                if !state.prepared() {
-                    return Offer::Nothing;
-                }
-                let plan = self.plan;
-                offer_of(self.terms.number, x, plan.segment(x.index))
-            }
+        let x = self.progress.current?;
+        if !self.progress.state.is_prepared() {
+            return None;
         }
+        let part = self.plan.segment(x.index)?;
+        Some(Offered {
+            number: self.terms.number,
+            ticket: x.ticket,
+            index: x.index,
+            part,
+        })
+    }
+
+    // What the calls read of the plan, and the profile.
+    fn outline(&self) -> Outline
+        ensures { result ≡ outline self.now }
+    {
+        self.plan.outline(self.terms.profile)
     }
 
     // What a call gave of the progress, in its sender.
-    fn placed(self, t: Turned) -> Sent
-        ensures { sent result ≡ placed self (turned t) }
+    fn placed(self, turned: Result<Turned, SenderError>) -> Sent
+        ensures { sent result ≡ placed self (turned_by self.progress turned) }
     {
-        let answer = t.answer;
-        let progress = t.progress;
-        Sent {
-            answer,
-            sender: Sender { progress, ..self },
+        match turned {
+            Err(e) => Sent {
+                answer: Err(e),
+                sender: self,
+            },
+            Ok(t) => Sent {
+                answer: t.answer,
+                sender: Sender {
+                    progress: t.progress,
+                    ..self
+                },
+            },
         }
     }
 
+    #[tactic(auto, unfolding(crate::specs::Calls::advance_of))]
     pub fn advance(self, monotonic_ms: u64) -> Sent
         ensures { sent result ≡ advance_of self monotonic_ms }
     {
-        let plan = self.plan;
-        let progress = self.progress;
-        self.placed(progress.advance(plan.outline(self.terms.profile), monotonic_ms))
+        self.placed(self.progress.advance(self.outline(), monotonic_ms))
     }
 
+    #[tactic(auto, unfolding(crate::specs::Calls::cancel_of))]
     pub fn cancel(self, monotonic_ms: u64) -> Sent
         ensures { sent result ≡ cancel_of self monotonic_ms }
     {
-        let plan = self.plan;
-        let progress = self.progress;
-        self.placed(progress.cancel(plan.outline(self.terms.profile), monotonic_ms))
+        self.placed(self.progress.cancel(self.outline(), monotonic_ms))
+    }
+
+    // The token that the lower layer gives, beside the number of this sender.
+    fn token(&self, number: u64, ticket: u64) -> Token
+        ensures { result ≡ record { own = self.now.terms.number; number = number; ticket = ticket } }
+    {
+        Token {
+            own: self.terms.number,
+            number,
+            ticket,
+        }
     }
 
     // The actual hand-off to Layer 3, apart from its observation: preparing alone starts no deadline.
+    #[tactic(auto, unfolding(crate::specs::Calls::submitted_of))]
     pub fn submitted(
         self,
         number: u64,
@@ -465,33 +403,28 @@ impl Sender {
     ) -> Sent
         ensures { sent result ≡ submitted_of (interval_of self) self number ticket queued_monotonic_ms observed_monotonic_ms }
     {
-        let plan = self.plan;
-        let progress = self.progress;
-        self.placed(progress.submitted(
-            self.terms.number,
-            plan.outline(self.terms.profile),
-            number,
-            ticket,
-            queued_monotonic_ms,
-            observed_monotonic_ms,
-        ))
+        self.placed(
+            self.progress.submitted(
+                self.token(number, ticket),
+                self.outline(),
+                queued_monotonic_ms,
+                observed_monotonic_ms,
+            ),
+        )
     }
 
     // The matching R-DATA ACCEPT of the Layer 3 exchange.
+    #[tactic(auto, unfolding(crate::specs::Calls::accepted_of))]
     pub fn accepted(self, number: u64, ticket: u64, monotonic_ms: u64) -> Sent
         ensures { sent result ≡ accepted_of self number ticket monotonic_ms }
     {
-        let plan = self.plan;
-        let progress = self.progress;
-        self.placed(progress.accepted(
-            self.terms.number,
-            plan.outline(self.terms.profile),
-            number,
-            ticket,
-            monotonic_ms,
-        ))
+        self.placed(
+            self.progress
+                .accepted(self.token(number, ticket), self.outline(), monotonic_ms),
+        )
     }
 
+    #[tactic(auto, unfolding(crate::specs::Calls::lower_failed_of))]
     pub fn lower_failed(
         self,
         number: u64,
@@ -501,19 +434,18 @@ impl Sender {
     ) -> Sent
         ensures { sent result ≡ lower_failed_of self number ticket failure monotonic_ms }
     {
-        let plan = self.plan;
-        let progress = self.progress;
-        self.placed(progress.lower_failed(
-            self.terms.number,
-            plan.outline(self.terms.profile),
-            number,
-            ticket,
-            failure,
-            monotonic_ms,
-        ))
+        self.placed(
+            self.progress.lower_failed(
+                self.token(number, ticket),
+                self.outline(),
+                failure,
+                monotonic_ms,
+            ),
+        )
     }
 
     // A response to this peer and service: wire transactions do not name local generations.
+    #[tactic(auto, unfolding(crate::specs::Calls::receive_response_of))]
     pub fn receive_response(
         self,
         peer: MobileIdentity,
@@ -524,9 +456,6 @@ impl Sender {
     ) -> Sent
         ensures { sent result ≡ receive_response_of self (record { peer = peer; protocol = protocol; response = response; unparsed = unparsed_bits; reading = monotonic_ms }) }
     {
-        let plan = self.plan;
-        let progress = self.progress;
-        let terms = self.terms;
         let arrival = Arrival {
             peer,
             protocol,
@@ -534,6 +463,9 @@ impl Sender {
             unparsed: unparsed_bits,
             reading: monotonic_ms,
         };
-        self.placed(progress.receive_response(terms, plan.outline(self.terms.profile), arrival))
+        self.placed(
+            self.progress
+                .receive_response(self.terms, self.outline(), arrival),
+        )
     }
 }

@@ -1,266 +1,193 @@
 // The calls on the progress alone: refusals, then the step, then 63.
-ghost use Rattle.std.specs.Prelude.{◌≡◌, ◌<◌, ◌≤◌};
+ghost use Rattle.std.specs.Prelude.{◌≡◌};
 ghost use Rattle.link.specs.Profile.{sender_interval};
 ghost use Rattle.sender.specs.Numbers.{sender_number};
-ghost use Rattle.sender.specs.Calls.{refuses, or_tickets, counting, awaits_word, advance_in, cancel_in, submitted_in, accepted_in, lower_failed_in, reacted, late_first, receive_response_in};
-ghost use Rattle.sender.specs.Tickets.{left_by, refused_by, within};
-ghost use Rattle.sender.specs.Says.{turned};
+ghost use Rattle.sender.specs.Calls.{refuses, left, or_tickets, counting, advance_in, cancel_in, submitted_in, accepted_in, lower_failed_in, reacted, late_first, receive_response_in};
+ghost use Rattle.sender.specs.Tickets.{within};
+ghost use Rattle.sender.specs.Says.{turned, turned_by};
 
-use crate::state::{both, is_prohibited};
+use crate::course::Course;
+use crate::state::Token;
 use crate::{
-    Arrival, Check, LowerLayerFailure, Moved, Outline, Progress, SenderAnswer, SenderError,
-    SenderFailure, SenderState, Terms, Turned,
+    Arrival, LowerLayerFailure, Outline, Progress, SenderError, SenderFailure, SenderState, Terms,
+    Turned,
 };
 use link::profiles::sender_interval;
-use tsar::AcknowledgmentWindow;
 
 impl Progress {
-    // A refusal that changes nothing.
+    // A refusal after a step has acted.
     fn refused(self, e: SenderError) -> Turned
-        ensures { turned result ≡ or_tickets self (refuses (sender_number e) self) }
+        ensures { turned result ≡ refuses (sender_number e) self }
     {
         Turned {
-            answer: SenderAnswer::Refused(e),
+            answer: Err(e),
             progress: self,
         }
     }
 
-    // The answer is the state that a step left, or 63.
-    fn left(self, m: Moved) -> Turned
-        ensures { turned result ≡ left_by self m }
+    // The answer is the state that a step left.
+    fn left(self) -> Turned
+        ensures { turned result ≡ left self }
     {
-        match m {
-            Moved::NoTicket => Turned {
-                answer: SenderAnswer::Refused(SenderError::Tickets),
-                progress: self,
-            },
-            Moved::To(p) => {
-                let state = p.state;
-                Turned {
-                    answer: SenderAnswer::State(state),
-                    progress: p,
-                }
-            }
+        Turned {
+            answer: Ok(self.state),
+            progress: self,
         }
     }
 
-    // A refusal after a step has acted, or 63.
-    fn refused_after(self, e: SenderError, m: Moved) -> Turned
-        ensures { turned result ≡ refused_by (sender_number e) self m }
+    #[tactic(auto, unfolding(crate::specs::Calls::advance_in))]
+    pub(crate) fn advance(self, outline: Outline, monotonic_ms: u64) -> Result<Turned, SenderError>
+        ensures { turned_by self result ≡ advance_in outline self monotonic_ms }
     {
-        match m {
-            Moved::NoTicket => Turned {
-                answer: SenderAnswer::Refused(SenderError::Tickets),
-                progress: self,
-            },
-            Moved::To(p) => Turned {
-                answer: SenderAnswer::Refused(e),
-                progress: p,
-            },
-        }
+        let course = self.check_clock(outline, monotonic_ms)?;
+        let advanced = self
+            .advanced(course, monotonic_ms)
+            .ok_or(SenderError::Tickets)?;
+        Ok(advanced.left())
     }
 
-    pub(crate) fn advance(self, outline: Outline, monotonic_ms: u64) -> Turned
-        ensures { turned result ≡ advance_in outline self monotonic_ms }
+    #[tactic(auto, using(crate::proofs::Stepping::cancelled_ticket), unfolding(crate::specs::Calls::cancel_in))]
+    pub(crate) fn cancel(self, outline: Outline, monotonic_ms: u64) -> Result<Turned, SenderError>
+        ensures { turned_by self result ≡ cancel_in outline self monotonic_ms }
     {
-        match self.check_clock(outline, monotonic_ms) {
-            Check::Refuse(e) => self.refused(e),
-            Check::Pass => {
-                let window = outline.acknowledgment_window;
-                let n = outline.count as u16;
-                self.left(self.advanced(n, window, monotonic_ms))
-            }
-        }
-    }
-
-    pub(crate) fn cancel(self, outline: Outline, monotonic_ms: u64) -> Turned
-        ensures { turned result ≡ cancel_in outline self monotonic_ms }
-    {
-        match self.check_clock(outline, monotonic_ms) {
-            Check::Refuse(e) => self.refused(e),
-            Check::Pass => {
-                let window = outline.acknowledgment_window;
-                let n = outline.count as u16;
-                match self.advanced(n, window, monotonic_ms) {
-                    Moved::NoTicket => self.left(Moved::NoTicket),
-                    Moved::To(p) => self.left(Moved::To(p.cancelled())),
-                }
-            }
-        }
+        let course = self.check_clock(outline, monotonic_ms)?;
+        let advanced = self
+            .advanced(course, monotonic_ms)
+            .ok_or(SenderError::Tickets)?;
+        Ok(advanced.cancelled().left())
     }
 
     // The submission is counted, and time goes on to the observed reading.
     fn count(
         self,
         interval: u64,
-        n: u16,
-        window: AcknowledgmentWindow,
+        course: Course,
         queued_monotonic_ms: u64,
         observed_monotonic_ms: u64,
-    ) -> Turned
-        requires { (0 < n) × (n ≤ 256) }
-        ensures { turned result ≡ or_tickets self (counting interval n window self queued_monotonic_ms observed_monotonic_ms) }
+    ) -> Result<Turned, SenderError>
+        ensures { turned_by self result ≡ or_tickets self (counting interval course.outline.count course.outline.acknowledgment_window self queued_monotonic_ms observed_monotonic_ms) }
     {
-        let sets = self.sets_deadline(n, window);
-        match self.check_count(interval, sets, queued_monotonic_ms) {
-            Check::Refuse(e) => self.refused(e),
-            Check::Pass => {
-                let counted = self.counted(interval, sets, queued_monotonic_ms);
-                self.left(counted.advanced(n, window, observed_monotonic_ms))
-            }
-        }
+        let sets = self.sets_deadline(course);
+        let counted = self.counted(interval, sets, queued_monotonic_ms)?;
+        let advanced = counted
+            .advanced(course, observed_monotonic_ms)
+            .ok_or(SenderError::Tickets)?;
+        Ok(advanced.left())
     }
 
+    #[tactic(auto, unfolding(crate::specs::Calls::submitted_in))]
     pub(crate) fn submitted(
         self,
-        own: u64,
+        token: Token,
         outline: Outline,
-        number: u64,
-        ticket: u64,
         queued_monotonic_ms: u64,
         observed_monotonic_ms: u64,
-    ) -> Turned
-        ensures { turned result ≡ submitted_in (sender_interval outline.profile) own outline self number ticket queued_monotonic_ms observed_monotonic_ms }
+    ) -> Result<Turned, SenderError>
+        ensures { turned_by self result ≡ submitted_in (sender_interval outline.profile) token.own outline self token.number token.ticket queued_monotonic_ms observed_monotonic_ms }
     {
-        match self.check_submitted(
-            own,
+        let course = self.check_submitted(
+            token,
             outline,
-            number,
-            ticket,
             queued_monotonic_ms,
             observed_monotonic_ms,
-        ) {
-            Check::Refuse(e) => self.refused(e),
-            Check::Pass => {
-                let window = outline.acknowledgment_window;
-                let n = outline.count as u16;
-                let deadline = self.deadline_monotonic_ms;
-                if both(is_prohibited(window), deadline.due(queued_monotonic_ms)) {
-                    let late = self.advanced(n, window, observed_monotonic_ms);
-                    return self.refused_after(SenderError::ReceiptTime, late);
-                }
-                let interval = sender_interval(outline.profile);
-                self.count(
-                    interval,
-                    n,
-                    window,
-                    queued_monotonic_ms,
-                    observed_monotonic_ms,
-                )
-            }
+        )?;
+        if course.is_prohibited() && self.is_due(queued_monotonic_ms) {
+            let late = self
+                .advanced(course, observed_monotonic_ms)
+                .ok_or(SenderError::Tickets)?;
+            return Ok(late.refused(SenderError::ReceiptTime));
         }
+        self.count(
+            sender_interval(outline.profile),
+            course,
+            queued_monotonic_ms,
+            observed_monotonic_ms,
+        )
     }
 
-    // Whether the lower layer's word on a submission is still awaited.
-    fn awaits_word(self, own: u64, number: u64, ticket: u64) -> bool
-        ensures { result ≡ awaits_word own self number ticket }
-    {
-        let state = self.state;
-        let current = self.current;
-        both(state.awaits_accept(), current.owned(own, number, ticket))
-    }
-
+    #[tactic(auto, unfolding(crate::specs::Calls::accepted_in))]
     pub(crate) fn accepted(
         self,
-        own: u64,
+        token: Token,
         outline: Outline,
-        number: u64,
-        ticket: u64,
         monotonic_ms: u64,
-    ) -> Turned
-        ensures { turned result ≡ accepted_in own outline self number ticket monotonic_ms }
+    ) -> Result<Turned, SenderError>
+        ensures { turned_by self result ≡ accepted_in token.own outline self token.number token.ticket monotonic_ms }
     {
-        match self.check_word(own, outline, number, ticket, monotonic_ms) {
-            Check::Refuse(e) => self.refused(e),
-            Check::Pass => {
-                let window = outline.acknowledgment_window;
-                let n = outline.count as u16;
-                match self.advanced(n, window, monotonic_ms) {
-                    Moved::NoTicket => self.left(Moved::NoTicket),
-                    Moved::To(p) => {
-                        if p.awaits_word(own, number, ticket) {
-                            return self.left(p.accepted_next(n, window, monotonic_ms));
-                        }
-                        self.refused_after(SenderError::StaleSubmission, Moved::To(p))
-                    }
-                }
-            }
+        let course = self.check_word(token, outline, monotonic_ms)?;
+        let advanced = self
+            .advanced(course, monotonic_ms)
+            .ok_or(SenderError::Tickets)?;
+        if !advanced.awaits_word(token) {
+            return Ok(advanced.refused(SenderError::StaleSubmission));
         }
+        let next = advanced
+            .accepted_next(course, monotonic_ms)
+            .ok_or(SenderError::Tickets)?;
+        Ok(next.left())
     }
 
+    #[tactic(auto, unfolding(crate::specs::Calls::lower_failed_in))]
     pub(crate) fn lower_failed(
         self,
-        own: u64,
+        token: Token,
         outline: Outline,
-        number: u64,
-        ticket: u64,
         failure: LowerLayerFailure,
         monotonic_ms: u64,
-    ) -> Turned
-        ensures { turned result ≡ lower_failed_in own outline self number ticket failure monotonic_ms }
+    ) -> Result<Turned, SenderError>
+        ensures { turned_by self result ≡ lower_failed_in token.own outline self token.number token.ticket failure monotonic_ms }
     {
-        match self.check_word(own, outline, number, ticket, monotonic_ms) {
-            Check::Refuse(e) => self.refused(e),
-            Check::Pass => {
-                let window = outline.acknowledgment_window;
-                let n = outline.count as u16;
-                match self.advanced(n, window, monotonic_ms) {
-                    Moved::NoTicket => self.left(Moved::NoTicket),
-                    Moved::To(p) => {
-                        if p.awaits_word(own, number, ticket) {
-                            let failed = SenderState::Failed(SenderFailure::LowerLayer(failure));
-                            return self.left(Moved::To(p.finish(failed)));
-                        }
-                        self.refused_after(SenderError::StaleSubmission, Moved::To(p))
-                    }
-                }
-            }
+        let course = self.check_word(token, outline, monotonic_ms)?;
+        let advanced = self
+            .advanced(course, monotonic_ms)
+            .ok_or(SenderError::Tickets)?;
+        if !advanced.awaits_word(token) {
+            return Ok(advanced.refused(SenderError::StaleSubmission));
         }
+        let failed = SenderState::Failed(SenderFailure::LowerLayer(failure));
+        Ok(advanced.finish(failed).left())
     }
 
     // The reaction to a response that passed the checks, and the closing advance.
-    fn reacted(self, outline: Outline, arrival: Arrival) -> Moved
-        requires { (0 < outline.count) × (outline.count ≤ 256) }
-        ensures { result ≡ within (reacted outline self arrival) }
+    #[tactic(auto, using(crate::specs::Tickets::no_ticket, crate::proofs::Stepping::advanced_grows))]
+    fn reacted(self, course: Course, arrival: Arrival) -> Option<Progress>
+        ensures { result ≡ within (reacted course.outline self arrival) }
     {
-        let window = outline.acknowledgment_window;
-        let n = outline.count as u16;
-        let response = arrival.response;
-        match self.react(n, response, arrival.reading) {
-            Moved::NoTicket => Moved::NoTicket,
-            Moved::To(p) => p.advanced(n, window, arrival.reading),
-        }
+        self.react(course, arrival.response, arrival.reading)?
+            .advanced(course, arrival.reading)
     }
 
     // Late: advance acts first; where that closes the sender, 38.
-    fn late_first(self, outline: Outline, arrival: Arrival) -> Turned
-        requires { (0 < outline.count) × (outline.count ≤ 256) }
-        ensures { turned result ≡ or_tickets self (late_first outline self arrival) }
+    #[tactic(auto, using(crate::proofs::Stepping::reacted_grows))]
+    fn late_first(self, course: Course, arrival: Arrival) -> Result<Turned, SenderError>
+        ensures { turned_by self result ≡ or_tickets self (late_first course.outline self arrival) }
     {
-        let window = outline.acknowledgment_window;
-        let n = outline.count as u16;
-        let deadline = self.deadline_monotonic_ms;
-        if !deadline.late(arrival.reading) {
-            return self.left(self.reacted(outline, arrival));
+        if !self.is_late(arrival.reading) {
+            let reacted = self.reacted(course, arrival).ok_or(SenderError::Tickets)?;
+            return Ok(reacted.left());
         }
-        match self.advanced(n, window, arrival.reading) {
-            Moved::NoTicket => self.left(Moved::NoTicket),
-            Moved::To(p) => {
-                let state = p.state;
-                if state.closed() {
-                    return self.refused_after(SenderError::Closed, Moved::To(p));
-                }
-                self.left(p.reacted(outline, arrival))
-            }
+        let advanced = self
+            .advanced(course, arrival.reading)
+            .ok_or(SenderError::Tickets)?;
+        if advanced.state.is_closed() {
+            return Ok(advanced.refused(SenderError::Closed));
         }
+        let reacted = advanced
+            .reacted(course, arrival)
+            .ok_or(SenderError::Tickets)?;
+        Ok(reacted.left())
     }
 
-    pub(crate) fn receive_response(self, terms: Terms, outline: Outline, arrival: Arrival) -> Turned
-        ensures { turned result ≡ receive_response_in terms outline self arrival }
+    #[tactic(auto, unfolding(crate::specs::Calls::receive_response_in))]
+    pub(crate) fn receive_response(
+        self,
+        terms: Terms,
+        outline: Outline,
+        arrival: Arrival,
+    ) -> Result<Turned, SenderError>
+        ensures { turned_by self result ≡ receive_response_in terms outline self arrival }
     {
-        match self.check_response(terms, outline, arrival) {
-            Check::Refuse(e) => self.refused(e),
-            Check::Pass => self.late_first(outline, arrival),
-        }
+        let course = self.check_response(terms, outline, arrival)?;
+        self.late_first(course, arrival)
     }
 }

@@ -1,10 +1,8 @@
 -- The number that a sender's call gives, the layout SUBMISSION of what a sender offers, and the failure of the lower layer that a number names.
-use Rattle.std.specs.Prelude.{Bool, true, false, List, [], ◌∷◌, ◌++◌, ℕ, get_or}
+use Rattle.std.specs.Prelude.{Bool, true, false, List, [], ◌∷◌, ◌++◌, ℕ, get_or, Option, Some, None}
 use Rattle.sender.specs.declared.LowerLayerFailure.{LowerLayerFailure}
 use Rattle.sender.specs.declared.LowerLayerFailure.TheVariants.{Rejected, TimedOut, Cancelled}
 use Rattle.sender.specs.declared.Offered.{Offered}
-use Rattle.sender.specs.declared.Offer.{Offer}
-use Rattle.sender.specs.declared.Offer.TheVariants.{Nothing, Submission}
 use Rattle.sender.specs.Calls.{Answer, refused, answered}
 use Rattle.image.specs.Numbers.{spell}
 use Rattle.codec_c.specs.Codes.{code_of}
@@ -26,14 +24,14 @@ unfoldable pub submission_image : Offered → List ℕ
 submission_image o = spell 8 o.number ++ (spell 8 o.ticket ++ (o.index ∷ part_image o.part.head o.part.offset))
 
 -- 0, or 1 where nothing is offered
-abbrev pub offer_code : Offer → ℕ
-offer_code Nothing = 1
-offer_code (Submission o) = 0
+abbrev pub offer_code : Option Offered → ℕ
+offer_code None = 1
+offer_code (Some o) = 0
 
 -- what is written to the answer
-abbrev pub offer_octets : Offer → List ℕ
-offer_octets Nothing = []
-offer_octets (Submission o) = submission_image o
+abbrev pub offer_octets : Option Offered → List ℕ
+offer_octets None = []
+offer_octets (Some o) = submission_image o
 
 -- ---- what the lower layer says: 0 Rejected, with its cause, 1 TimedOut, 2 Cancelled
 

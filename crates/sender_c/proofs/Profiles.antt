@@ -4,7 +4,7 @@
 use mathlib.Core.Path.{◌≡◌, sym, ap, ◌∙◌}
 use mathlib.Core.Bool.{Bool, true, false, not}
 use mathlib.Core.List.{List, []}
-use mathlib.Core.Option.{none}
+use Rattle.std.specs.Prelude.{None}
 use Prim.Native.Nat.{ℕ, ◌-◌, ◌^◌, ◌≤◌, ◌<◌}
 use lib.ListN.{length}
 use lib.Seq.{sets}
@@ -74,7 +74,7 @@ module _ (image plan message : List ℕ) (kind width value protocol octet versio
 
 module _ (image answer : List ℕ) (room : 6131 ≤ length image) (answer_room : 4 ≤ length answer) (spelled : image_ok image ≡ true)
     (not_1 : (record_of image).terms.profile ≡ 1 → ⊥) (not_2 : (record_of image).terms.profile ≡ 2 → ⊥) (ticket : (record_of image).progress.last_ticket ≤ 2 ^ 64 - 1) where
-  gives_62 : (tests : List (Bool × Refusal)) → refusal tests ≡ none → (c : SenderCall) → sender_call tests image answer (ours (record_of image) c) ≡ call 15872 image answer
+  gives_62 : (tests : List (Bool × Refusal)) → refusal tests ≡ None → (c : SenderCall) → sender_call tests image answer (ours (record_of image) c) ≡ call 15872 image answer
   unfolding sender_call
   gives_62 tests passed c =
       sym (call_done tests image answer (step_call image answer (ours (record_of image) c)) passed)

@@ -1,24 +1,26 @@
 -- What the sender's exports give, and what they leave in each lent buffer: the exports' own tests first, which change nothing, and then
 -- what the sender's own definition says of the record that the buffer spells.
-use Rattle.std.specs.Prelude.{◌≡◌, Bool, true, not, List, [], ◌∷◌, ℕ, ltb, length}
-use Rattle.std.proofs.Math.Option.{none}
+use Rattle.std.specs.Prelude.{◌≡◌, Bool, true, not, List, [], ◌∷◌, ◌++◌, ℕ, ltb, length, Option, Some, None, Result, Ok, Err}
+use Rattle.sender.specs.declared.Offered.{Offered}
 use Rattle.std.proofs.lemmas.List.Edits.{sets}
 use Rattle.tsar.specs.Rows.{Refusal, refusal}
 use Rattle.link.specs.declared.MobileIdentity.{MobileIdentity}
+use Rattle.response.specs.declared.Response.{Response}
 use Rattle.sender.specs.declared.SenderState.{SenderState}
 use Rattle.sender.specs.declared.Terms.{Terms}
 use Rattle.sender.specs.declared.Arrival.{Arrival}
 use Rattle.sender.specs.declared.Sender.{Sender}
-use Rattle.sender.specs.declared.Offer.{Offer}
+use Rattle.sender.specs.declared.Sent.{Sent}
 use Rattle.sender.specs.Record.{interval_of}
 use Rattle.sender.specs.Calls.{Answer, refused, answered, Step, advance_of, cancel_of, submitted_of, accepted_of, lower_failed_of, receive_response_of}
+use Rattle.sender.specs.Says.{sent}
 use Rattle.sender.specs.TryNew.{try_new_of}
 use Rattle.image.specs.Cases.{protocol_of}
 use Rattle.image_link.specs.Responses.{response_of, response_ok}
 use Rattle.plan_image.specs.Plans.{plan_of, plan_ok}
 use Rattle.sender_image.specs.Images.{image_of, record_of, image_ok}
 use Rattle.sender_image.specs.States.{state_image}
-use Rattle.codec_c.specs.Codes.{short, misspelled, unnamed, unless_refused}
+use Rattle.codec_c.specs.Codes.{short, misspelled, unnamed, unless_refused, code_of}
 use Rattle.sender_answers.specs.Answers.{answer_code, offer_code, offer_octets, failure_of}
 
 -- ---- a call
@@ -56,7 +58,7 @@ pub record Spelled (image : List ℕ) (s : Sender) : Type 0 where
 
 -- a call that no test refuses leaves octets that spell the sender that the step leaves, also beside a refusal
 abbrev pub Spells : List (Bool × Refusal) → List ℕ → Step → Type 0
-Spells tests image step = refusal tests ≡ none → Spelled image step.sender
+Spells tests image step = refusal tests ≡ None → Spelled image step.sender
 
 -- what is shown of an export that answers STATE: the call is what the definition says, and the octets spell what the step leaves
 abbrev pub Met : List (Bool × Refusal) → List ℕ → List ℕ → Step → Call → Type 0
@@ -85,7 +87,35 @@ submitted_step image number ticket queued observed = submitted_of (interval_of (
 abbrev pub accepted_step : List ℕ → ℕ → ℕ → ℕ → Step
 accepted_step image number ticket reading = accepted_of (record_of image) number ticket reading
 
+-- ---- what code hands to a step, and what it does with what the step gives
+
+-- a sender is 6,131 octets, and an answer as many as are asked for
+abbrev pub front_tests : List ℕ → List ℕ → ℕ → List (Bool × Refusal)
+front_tests image answer octets = (ltb (length image) 6131, short) ∷ (ltb (length answer) octets, short) ∷ (not (image_ok image), misspelled) ∷ []
+
+-- the number of the first test that holds, or a value
+abbrev pub tested : {A : Type 0} → List (Bool × Refusal) → A → Result A ℕ
+tested tests x = unless_refused (refusal tests) Err (Ok x)
+
+abbrev pub read_of : List ℕ → List ℕ → ℕ → Result Sender ℕ
+read_of image answer octets = tested (front_tests image answer octets) (record_of image)
+
+-- what a step gave
+abbrev pub stepped : Result Sent ℕ → Result Step ℕ
+stepped (Ok s) = Ok (sent s)
+stepped (Err n) = Err n
+
+-- a call that hands the record's sender to a step, of whose results P holds: if these are what tests of its own and a definition say, so is the call
+abbrev pub Steps : (Sender → Result Sent ℕ → Type 0) → List ℕ → List ℕ → Call → Type 0
+Steps P image answer c =
+    (tests : List (Bool × Refusal)) (step : Step) → ((r : Result Sent ℕ) → P (record_of image) r → stepped r ≡ tested tests step)
+    → Met (state_tests image answer ++ tests) image answer step c
+
 -- ---- catkhize_sender_lower_failed
+
+-- its own test
+abbrev pub failed_own : ℕ → List (Bool × Refusal)
+failed_own failure = (ltb 2 failure, unnamed) ∷ []
 
 abbrev pub failed_tests : List ℕ → ℕ → List ℕ → List (Bool × Refusal)
 failed_tests image failure answer =
@@ -105,6 +135,15 @@ response_tests image protocol response answer =
     ∷ (not (response_ok response), misspelled)
     ∷ (ltb 2 protocol, unnamed)
     ∷ []
+
+-- its own tests behind those of the record
+abbrev pub response_own : Bool → ℕ → List (Bool × Refusal)
+response_own ok protocol = (not ok, misspelled) ∷ (ltb 2 protocol, unnamed) ∷ []
+
+-- what a step answers where a response was read, and where none was, as these tests say
+abbrev pub brought_by : Option Response → ℕ → (Response → Step) → Result Step ℕ
+brought_by None protocol step = Err (code_of misspelled)
+brought_by (Some r) protocol step = tested ((ltb 2 protocol, unnamed) ∷ []) (step r)
 
 -- what a response brings, by its numbers
 abbrev pub arrival_of : ℕ → ℕ → ℕ → ℕ → ℕ → List ℕ → ℕ → ℕ → Arrival
@@ -143,7 +182,7 @@ abbrev pub MadeSpells : List ℕ → Step → Type 0
 MadeSpells image s = (x : SenderState) → s.answer ≡ answered x → Spelled image s.sender
 
 abbrev pub NewSpells : List (Bool × Refusal) → List ℕ → Step → Type 0
-NewSpells tests image step = refusal tests ≡ none → MadeSpells image step
+NewSpells tests image step = refusal tests ≡ None → MadeSpells image step
 
 abbrev pub NewMet : List (Bool × Refusal) → List ℕ → Step → Call → Type 0
 NewMet tests image step c = (c ≡ new_call tests image step) × NewSpells tests c.image step
@@ -155,8 +194,8 @@ abbrev pub offer_tests : List ℕ → List ℕ → List (Bool × Refusal)
 offer_tests image answer = (ltb (length image) 6131, short) ∷ (ltb (length answer) 48, short) ∷ (not (image_ok image), misspelled) ∷ []
 
 -- the record is only read
-abbrev pub offered_call : List ℕ → List ℕ → Offer → Call
+abbrev pub offered_call : List ℕ → List ℕ → Option Offered → Call
 offered_call image answer o = call (offer_code o) image (sets answer 0 (offer_octets o))
 
-unfoldable pub offer_call : List (Bool × Refusal) → List ℕ → List ℕ → Offer → Call
+unfoldable pub offer_call : List (Bool × Refusal) → List ℕ → List ℕ → Option Offered → Call
 offer_call tests image answer o = call_of tests image answer (offered_call image answer o)

@@ -3,21 +3,21 @@
 
 ghost use Rattle.std.specs.Prelude.{◌≡◌, [], ◌≤◌, length};
 ghost use Rattle.std.proofs.lemmas.List.Edits.{sets};
+ghost use Rattle.sender.specs.Calls.{lower_failed_of, receive_response_of};
 ghost use Rattle.sender.specs.Says.{sender_says, sent};
 ghost use Rattle.sender.specs.TryNew.{offer_of};
 ghost use Rattle.sender_image.specs.Images.{record_of};
-ghost use Rattle.sender_answers.specs.Answers.{answer_code};
-ghost use Rattle.sender_c.specs.Calls.{call, state_octets, step_call, Spelled, Met, state_tests, advance_step, cancel_step, submitted_step, accepted_step, failed_tests, failed_step, response_tests, arrival_of, response_step, new_tests, terms_of, new_step, made_call, MadeSpells, NewMet, offer_tests, offer_call};
+ghost use Rattle.image.specs.Cases.{protocol_of};
+ghost use Rattle.sender_answers.specs.Answers.{answer_code, failure_of};
+ghost use Rattle.sender_c.specs.Calls.{call, state_octets, step_call, read_of, stepped, tested, Steps, Spelled, Met, state_tests, failed_own, brought_by, advance_step, cancel_step, submitted_step, accepted_step, failed_tests, failed_step, response_tests, arrival_of, response_step, new_tests, terms_of, new_step, made_call, MadeSpells, NewMet, offer_tests, offer_call};
 
 use codec_c::codes::{DONE, MISSPELLED, SHORT, UNNAMED};
 use image::cases::protocol_of;
 use image_link::{RESPONSE_OCTETS, get_response};
 use link::MobileIdentity;
 use plan_image::{PLAN_OCTETS, get_plan};
-use sender::{Sender, SenderAnswer, Sent};
-use sender_answers::{
-    SUBMISSION_OCTETS, answer_code, error_code, failure_of, is_refused, put_offer,
-};
+use sender::{Sender, SenderError, SenderState, Sent};
+use sender_answers::{SUBMISSION_OCTETS, error_code, failure_of, put_offer};
 use sender_image::states::state_octets;
 use sender_image::{SENDER_OCTETS, STATE_OCTETS, get_sender, put_sender};
 
@@ -26,15 +26,24 @@ const MAX_PROTOCOL: u8 = 2;
 
 const MAX_FAILURE: u8 = 2;
 
+// The sender that the record spells, where the answer has room for as many octets, or the number that refuses the call.
+fn read_sender(record: &[u8], answer: &[u8], octets: usize) -> Result<Sender, u32>
+    ensures { result ≡ read_of «record».now answer.now octets }
+{
+    if record.len() < SENDER_OCTETS || answer.len() < octets {
+        return Err(SHORT);
+    }
+    get_sender(record).ok_or(MISSPELLED)
+}
+
 // What a call answers, and its number: nothing is written beside a refusal.
-fn put_answer(answer: &mut [u8], a: SenderAnswer) -> u32
+fn put_answer(answer: &mut [u8], a: Result<SenderState, SenderError>) -> u32
     ensures { (result ≡ answer_code (sender_says a)) × (answer.new ≡ sets answer.old 0 (state_octets (sender_says a))) }
 {
     match a {
-        SenderAnswer::Refused(e) => error_code(e),
-        SenderAnswer::State(s) => {
-            let state = state_octets(s);
-            octets::put(answer, 0, &state);
+        Err(e) => error_code(e),
+        Ok(s) => {
+            octets::put(answer, 0, &state_octets(s));
             DONE
         }
     }
@@ -45,10 +54,24 @@ fn put_sent(record: &mut [u8], answer: &mut [u8], given: Sent) -> u32
     requires { 6131 ≤ length «record».old }
     ensures { (call result «record».new answer.new ≡ step_call «record».old answer.old (sent given)) × Spelled «record».new given.sender }
 {
-    let sender = given.sender;
     let said = given.answer;
-    put_sender(record, sender);
+    put_sender(record, given.sender);
     put_answer(answer, said)
+}
+
+// The call of a step that answers STATE: it is handed the sender that the record spells, and may refuse it by a number.
+fn on_sender<F: FnOnce(Sender) -> Result<Sent, u32>>(
+    record: &mut [u8],
+    answer: &mut [u8],
+    step: F,
+) -> u32
+    requires { F.IsAlwaysCallable step }
+    ensures { Steps (F.post step) «record».old answer.old (call result «record».new answer.new) }
+{
+    match read_sender(record, answer, STATE_OCTETS).and_then(step) {
+        Err(code) => code,
+        Ok(given) => put_sent(record, answer, given),
+    }
 }
 
 // What try_new gave: a refusal leaves the record as it was.
@@ -56,16 +79,17 @@ fn put_made(record: &mut [u8], given: Sent) -> u32
     requires { 6131 ≤ length «record».old }
     ensures { (call result «record».new [] ≡ made_call «record».old (sent given)) × MadeSpells «record».new (sent given) }
 {
-    let sender = given.sender;
-    let made = given.answer;
-    if is_refused(made) {
-        return answer_code(made);
+    match given.answer {
+        Err(e) => error_code(e),
+        Ok(_) => {
+            put_sender(record, given.sender);
+            DONE
+        }
     }
-    put_sender(record, sender);
-    DONE
 }
 
 // Writes the sender of a plan and its message, which PLAN spells, to the record.
+#[tactic(auto, unfolding(crate::specs::Calls::new_call))]
 pub fn catkhize_sender_new(
     record: &mut [u8],
     peer_kind: u8,
@@ -82,16 +106,12 @@ pub fn catkhize_sender_new(
 ) -> u32
     ensures { NewMet (new_tests «record».old protocol plan.now) «record».old (new_step (terms_of peer_kind peer_width peer_value protocol protocol_octet version profile number) plan.now message.now reading) (call result «record».new []) }
 {
-    if record.len() < SENDER_OCTETS {
+    if record.len() < SENDER_OCTETS || plan.len() < PLAN_OCTETS {
         return SHORT;
     }
-    if plan.len() < PLAN_OCTETS {
-        return SHORT;
-    }
-    let read = get_plan(plan);
-    if !read.ok {
+    let Some(sent) = get_plan(plan) else {
         return MISSPELLED;
-    }
+    };
     if MAX_PROTOCOL < protocol {
         return UNNAMED;
     }
@@ -101,10 +121,11 @@ pub fn catkhize_sender_new(
         value: peer_value,
     };
     let service = protocol_of(protocol, protocol_octet);
-    let p = read.plan;
     put_made(
         record,
-        Sender::try_new(peer, service, p, message, version, profile, number, reading),
+        Sender::try_new(
+            peer, service, sent, message, version, profile, number, reading,
+        ),
     )
 }
 
@@ -112,36 +133,14 @@ pub fn catkhize_sender_new(
 pub fn catkhize_sender_advance(record: &mut [u8], reading: u64, answer: &mut [u8]) -> u32
     ensures { Met (state_tests «record».old answer.old) «record».old answer.old (advance_step «record».old reading) (call result «record».new answer.new) }
 {
-    if record.len() < SENDER_OCTETS {
-        return SHORT;
-    }
-    if answer.len() < STATE_OCTETS {
-        return SHORT;
-    }
-    let read = get_sender(record);
-    if !read.ok {
-        return MISSPELLED;
-    }
-    let sender = read.sender;
-    put_sent(record, answer, sender.advance(reading))
+    on_sender(record, answer, |s| Ok(s.advance(reading)))
 }
 
 // Ends an open sender.
 pub fn catkhize_sender_cancel(record: &mut [u8], reading: u64, answer: &mut [u8]) -> u32
     ensures { Met (state_tests «record».old answer.old) «record».old answer.old (cancel_step «record».old reading) (call result «record».new answer.new) }
 {
-    if record.len() < SENDER_OCTETS {
-        return SHORT;
-    }
-    if answer.len() < STATE_OCTETS {
-        return SHORT;
-    }
-    let read = get_sender(record);
-    if !read.ok {
-        return MISSPELLED;
-    }
-    let sender = read.sender;
-    put_sent(record, answer, sender.cancel(reading))
+    on_sender(record, answer, |s| Ok(s.cancel(reading)))
 }
 
 // Layer 3 took the submission at the reading queued, which is seen at the reading observed.
@@ -155,22 +154,9 @@ pub fn catkhize_sender_submitted(
 ) -> u32
     ensures { Met (state_tests «record».old answer.old) «record».old answer.old (submitted_step «record».old number ticket queued observed) (call result «record».new answer.new) }
 {
-    if record.len() < SENDER_OCTETS {
-        return SHORT;
-    }
-    if answer.len() < STATE_OCTETS {
-        return SHORT;
-    }
-    let read = get_sender(record);
-    if !read.ok {
-        return MISSPELLED;
-    }
-    let sender = read.sender;
-    put_sent(
-        record,
-        answer,
-        sender.submitted(number, ticket, queued, observed),
-    )
+    on_sender(record, answer, |s| {
+        Ok(s.submitted(number, ticket, queued, observed))
+    })
 }
 
 // The peer's Layer 3 accepted the submission.
@@ -183,18 +169,9 @@ pub fn catkhize_sender_accepted(
 ) -> u32
     ensures { Met (state_tests «record».old answer.old) «record».old answer.old (accepted_step «record».old number ticket reading) (call result «record».new answer.new) }
 {
-    if record.len() < SENDER_OCTETS {
-        return SHORT;
-    }
-    if answer.len() < STATE_OCTETS {
-        return SHORT;
-    }
-    let read = get_sender(record);
-    if !read.ok {
-        return MISSPELLED;
-    }
-    let sender = read.sender;
-    put_sent(record, answer, sender.accepted(number, ticket, reading))
+    on_sender(record, answer, |s| {
+        Ok(s.accepted(number, ticket, reading))
+    })
 }
 
 // Layer 3 gave the submission up.
@@ -209,25 +186,17 @@ pub fn catkhize_sender_lower_failed(
 ) -> u32
     ensures { Met (failed_tests «record».old failure answer.old) «record».old answer.old (failed_step «record».old number ticket failure cause reading) (call result «record».new answer.new) }
 {
-    if record.len() < SENDER_OCTETS {
-        return SHORT;
-    }
-    if answer.len() < STATE_OCTETS {
-        return SHORT;
-    }
-    let read = get_sender(record);
-    if !read.ok {
-        return MISSPELLED;
-    }
-    if MAX_FAILURE < failure {
-        return UNNAMED;
-    }
-    let word = failure_of(failure, cause);
-    let sender = read.sender;
-    put_sent(
+    on_sender(
         record,
         answer,
-        sender.lower_failed(number, ticket, word, reading),
+        |s|
+            ensures { stepped result ≡ tested (failed_own failure) (lower_failed_of s number ticket (failure_of failure cause) reading) }
+        {
+            if MAX_FAILURE < failure {
+                return Err(UNNAMED);
+            }
+            Ok(s.lower_failed(number, ticket, failure_of(failure, cause), reading))
+        },
     )
 }
 
@@ -246,55 +215,38 @@ pub fn catkhize_sender_receive_response(
 ) -> u32
     ensures { Met (response_tests «record».old protocol response.now answer.old) «record».old answer.old (response_step «record».old (arrival_of peer_kind peer_width peer_value protocol protocol_octet response.now unparsed reading)) (call result «record».new answer.new) }
 {
-    if record.len() < SENDER_OCTETS {
-        return SHORT;
-    }
     if response.len() < RESPONSE_OCTETS {
         return SHORT;
     }
-    if answer.len() < STATE_OCTETS {
-        return SHORT;
-    }
-    let read = get_sender(record);
-    if !read.ok {
-        return MISSPELLED;
-    }
     let brought = get_response(response);
-    if !brought.ok {
-        return MISSPELLED;
-    }
-    if MAX_PROTOCOL < protocol {
-        return UNNAMED;
-    }
     let peer = MobileIdentity {
         kind: peer_kind,
         width: peer_width,
         value: peer_value,
     };
-    let service = protocol_of(protocol, protocol_octet);
-    let sender = read.sender;
-    let x = brought.response;
-    put_sent(
+    on_sender(
         record,
         answer,
-        sender.receive_response(peer, service, x, unparsed as usize, reading),
+        |s|
+            ensures { stepped result ≡ brought_by brought protocol (λ r. receive_response_of s (record { peer = peer; protocol = protocol_of protocol protocol_octet; response = r; unparsed = unparsed; reading = reading })) }
+        {
+            let received = brought.ok_or(MISSPELLED)?;
+            if MAX_PROTOCOL < protocol {
+                return Err(UNNAMED);
+            }
+            let service = protocol_of(protocol, protocol_octet);
+            Ok(s.receive_response(peer, service, received, unparsed as usize, reading))
+        },
     )
 }
 
 // What is offered to Layer 3 now: answers SUBMISSION, and changes nothing else.
+#[tactic(auto, unfolding(crate::specs::Calls::offer_call))]
 pub fn catkhize_sender_submission(record: &[u8], answer: &mut [u8]) -> u32
     ensures { call result «record».now answer.new ≡ offer_call (offer_tests «record».now answer.old) «record».now answer.old (offer_of (record_of «record».now)) }
 {
-    if record.len() < SENDER_OCTETS {
-        return SHORT;
+    match read_sender(record, answer, SUBMISSION_OCTETS) {
+        Err(code) => code,
+        Ok(sender) => put_offer(answer, sender.submission()),
     }
-    if answer.len() < SUBMISSION_OCTETS {
-        return SHORT;
-    }
-    let read = get_sender(record);
-    if !read.ok {
-        return MISSPELLED;
-    }
-    let sender = read.sender;
-    put_offer(answer, sender.submission())
 }

@@ -1,5 +1,5 @@
 -- The first 174 octets of a sender: layout version (the number 2), terms (22), progress (151). Assumes nothing.
-use Rattle.std.specs.Prelude.{◌≡◌, Bool, drop}
+use Rattle.std.specs.Prelude.{◌≡◌, Bool, drop, Option}
 use Rattle.std.proofs.Math.Path.{refl, ap, ap₂}
 use Rattle.std.proofs.Common.{sym, ◌∙◌, drop-drop, get_or-drop}
 use mathlib.Core.List.{List, [], ◌∷◌, ◌++◌, append_assoc}
@@ -10,8 +10,7 @@ use Rattle.words.specs.declared.Words.{Words}
 use Rattle.link.specs.declared.MobileIdentity.{MobileIdentity}
 use Rattle.link.specs.declared.HigherLayerProtocol.{HigherLayerProtocol}
 use Rattle.sender.specs.declared.SenderState.{SenderState}
-use Rattle.sender.specs.declared.Current.{Current}
-use Rattle.sender.specs.declared.Deadline.{Deadline}
+use Rattle.sender.specs.declared.Submission.{Submission}
 use Rattle.sender.specs.declared.Terms.{Terms}
 use Rattle.sender.specs.declared.Progress.{Progress}
 use Rattle.image.specs.Spelling.{spells, Layout, spell_octet, read_octet, AnyOctet, octet_layout, spell_both, read_both, both_layout, as_layout, put_next}
@@ -111,13 +110,13 @@ pub record ProgressFits (p : Progress) : Type 0 where
   pub times : TimesFit p
 
 abbrev Standing : Type 0
-Standing = SenderState × (Current × ℕ)
+Standing = SenderState × (Option Submission × ℕ)
 
 abbrev Marked : Type 0
 Marked = Words × (Words × Words)
 
 abbrev Times : Type 0
-Times = Deadline × (ℕ × ℕ)
+Times = Option ℕ × (ℕ × ℕ)
 
 abbrev read_standing : List ℕ → Standing
 read_standing = read_both state_of 4 (read_both current_of 18 (number_of 8))

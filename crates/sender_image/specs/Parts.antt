@@ -1,17 +1,17 @@
 -- The layouts of a sender's submission (18 octets) and its deadline (9). What is absent is 0. Assumes nothing.
-use Rattle.std.specs.Prelude.{◌≡◌, cond, eqb, length, get_or, drop}
+use Rattle.std.specs.Prelude.{◌≡◌, cond, eqb, length, get_or, drop, Option, Some, None}
 use Rattle.std.proofs.Math.Path.{refl}
-use Rattle.std.proofs.Common.{sym, ap, drop-drop, get_or-drop}
+use Rattle.std.proofs.Common.{sym, drop-drop, get_or-drop}
 use mathlib.Core.List.{List, [], ◌∷◌, ◌++◌}
 use Prim.Native.Nat.{ℕ, ◌+◌, ◌<◌}
 use Rattle.std.proofs.Math.Seq.{sets}
+use Rattle.std.specs.Int.{from_bool}
+use Rattle.std.specs.Option.{is_some, unwrap_or}
 use Rattle.sender.specs.declared.Submission.{Submission}
-use Rattle.sender.specs.declared.Current.{Current}
-use Rattle.sender.specs.declared.Current.TheVariants as current
-use Rattle.sender.specs.declared.Deadline.{Deadline}
-use Rattle.sender.specs.declared.Deadline.TheVariants as deadline
 use Rattle.image.specs.Spelling.{Layout, spell_octet, read_octet, AnyOctet, octet_layout, spell_both, read_both, both_layout, as_layout, put_next}
-use Rattle.image.specs.Numbers.{spell, number_of, number_layout, number_back}
+use Rattle.image.specs.Numbers.{spell, number_of, number_layout}
+pub use Rattle.image_link.specs.Deadlines.{deadline_flag, deadline_or0, deadline_from, DeadlineFits, deadline_layout}
+unfoldable pub use Rattle.image_link.specs.Deadlines.{deadline_image, deadline_of}
 
 -- ---- a submission: flag, ticket, index, prepared reading
 
@@ -19,13 +19,11 @@ use Rattle.image.specs.Numbers.{spell, number_of, number_layout, number_back}
 abbrev pub no_submission : Submission
 no_submission = record { ticket = 0; index = 0; prepared_monotonic_ms = 0 }
 
-abbrev pub current_flag : Current → ℕ
-current_flag current.Nothing = 0
-current_flag (current.Submission x) = 1
+abbrev pub current_flag : Option Submission → ℕ
+current_flag c = from_bool (is_some c)
 
-abbrev pub submission_in : Current → Submission
-submission_in current.Nothing = no_submission
-submission_in (current.Submission x) = x
+abbrev pub submission_in : Option Submission → Submission
+submission_in c = unwrap_or c no_submission
 
 unfoldable pub submission_image : Submission → List ℕ
 submission_image x = spell 8 x.ticket ++ (x.index ∷ spell 8 x.prepared_monotonic_ms)
@@ -37,39 +35,17 @@ pub record SubmissionFits (x : Submission) : Type 0 where
   pub ticket : x.ticket < 18446744073709551616
   pub prepared : x.prepared_monotonic_ms < 18446744073709551616
 
-unfoldable pub current_image : Current → List ℕ
+unfoldable pub current_image : Option Submission → List ℕ
 current_image c = current_flag c ∷ submission_image (submission_in c)
 
-abbrev pub current_from : ℕ → Submission → Current
-current_from flag x = cond (eqb flag 0) current.Nothing (current.Submission x)
+abbrev pub current_from : ℕ → Submission → Option Submission
+current_from flag x = cond (eqb flag 0) None (Some x)
 
-unfoldable pub current_of : List ℕ → Current
+unfoldable pub current_of : List ℕ → Option Submission
 current_of l = current_from (get_or l 0 0) (submission_of (drop 1 l))
 
-abbrev pub CurrentFits : Current → Type 0
+abbrev pub CurrentFits : Option Submission → Type 0
 CurrentFits c = SubmissionFits (submission_in c)
-
--- ---- a deadline: flag, reading
-
-abbrev pub deadline_flag : Deadline → ℕ
-deadline_flag deadline.Off = 0
-deadline_flag (deadline.At t) = 1
-
-abbrev pub deadline_or0 : Deadline → ℕ
-deadline_or0 deadline.Off = 0
-deadline_or0 (deadline.At t) = t
-
-unfoldable pub deadline_image : Deadline → List ℕ
-deadline_image d = deadline_flag d ∷ spell 8 (deadline_or0 d)
-
-abbrev pub deadline_from : ℕ → ℕ → Deadline
-deadline_from flag t = cond (eqb flag 0) deadline.Off (deadline.At t)
-
-unfoldable pub deadline_of : List ℕ → Deadline
-deadline_of l = deadline_from (get_or l 0 0) (number_of 8 (drop 1 l))
-
-abbrev pub DeadlineFits : Deadline → Type 0
-DeadlineFits d = deadline_or0 d < 18446744073709551616
 
 -- ---- laws of a submission
 
@@ -97,11 +73,11 @@ submission_layout =
     (λ x. refl) submission_image submission_of SubmissionFits (λ x. refl) submission_reads (λ x f. (f.ticket, (tt, f.prepared)))
     (λ l. submission_wide (submission_of l))
 
-current_same : (c : Current) → current_from (current_flag c) (submission_in c) ≡ c
-current_same current.Nothing = refl
-current_same (current.Submission x) = refl
+current_same : (c : Option Submission) → current_from (current_flag c) (submission_in c) ≡ c
+current_same None = refl
+current_same (Some x) = refl
 
-pub current_wide : (c : Current) → length (current_image c) ≡ 18
+pub current_wide : (c : Option Submission) → length (current_image c) ≡ 18
 unfolding current_image submission_image spell
 current_wide c = refl
 
@@ -116,7 +92,7 @@ current_layout =
     (λ l. current_wide (current_of l))
 
 -- written one after another
-module _ (l : List ℕ) (at : ℕ) (c : Current) where
+module _ (l : List ℕ) (at : ℕ) (c : Option Submission) where
   pub current_put : (x y z t : List ℕ) → x ≡ sets l at (current_flag c ∷ []) → y ≡ sets x (at + 1) (spell 8 (submission_in c).ticket) → z ≡ sets y (at + 9) ((submission_in c).index ∷ [])
       → t ≡ sets z (at + 10) (spell 8 (submission_in c).prepared_monotonic_ms) → t ≡ sets l at (current_image c)
   unfolding current_image submission_image spell
@@ -132,17 +108,3 @@ module _ (l : List ℕ) (at : ℕ) (c : Current) where
 pub current_flat : (l : List ℕ) → current_of l ≡ current_from (get_or l 0 0) (record { ticket = number_of 8 (drop 1 l); index = get_or l 9 0; prepared_monotonic_ms = number_of 8 (drop 10 l) })
 unfolding current_of submission_of
 current_flat l = simp (get_or-drop, drop-drop)
-
--- ---- laws of a deadline
-
-deadline_wide : (d : Deadline) → length (deadline_image d) ≡ 9
-unfolding deadline_image spell
-deadline_wide d = refl
-
-deadline_back : (d : Deadline) → DeadlineFits d → (rest : List ℕ) → deadline_of (deadline_image d ++ rest) ≡ d
-unfolding deadline_image deadline_of
-deadline_back deadline.Off f rest = refl
-deadline_back (deadline.At t) f rest = ap deadline.At (number_back 8 t rest f)
-
-pub deadline_layout : Layout deadline_image deadline_of 9 DeadlineFits
-deadline_layout = record { wide = λ d f. deadline_wide d; reads_wide = λ l. deadline_wide (deadline_of l); back = deadline_back }

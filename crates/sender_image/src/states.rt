@@ -1,9 +1,9 @@
 // The layout STATE: the octets of a state, and the state that they are read as.
+// The numbers are the layout's (the C interface), and an impl of From for a type of another crate cannot stand here.
 ghost use Rattle.std.specs.Prelude.{◌≡◌};
 ghost use Rattle.sender_image.specs.States.{completion_number, completion_of, lower_number, cause_or0, lower_of, failure_number, failure_lower, failure_value, failure_of, state_number, state_kind, state_lower, state_value, state_image, state_from};
 
 use image::cases::status_of;
-use response::status_number;
 use sender::{Completion, LowerLayerFailure, SenderFailure, SenderState};
 
 // A completion.
@@ -22,7 +22,6 @@ fn completion_of(n: u8) -> Completion
     ensures { result ≡ completion_of n }
 {
     match n {
-        0 => Completion::LowerLayerAccepted,
         1 => Completion::PeerReceived,
         2 => Completion::ExceptionIntervalElapsed,
         _ => Completion::LowerLayerAccepted,
@@ -35,7 +34,7 @@ fn lower_number(f: LowerLayerFailure) -> u8
     ensures { result ≡ lower_number f }
 {
     match f {
-        LowerLayerFailure::Rejected { cause: _ } => 0,
+        LowerLayerFailure::Rejected { .. } => 0,
         LowerLayerFailure::TimedOut => 1,
         LowerLayerFailure::Cancelled => 2,
     }
@@ -46,8 +45,7 @@ fn cause_or_0(f: LowerLayerFailure) -> u8
 {
     match f {
         LowerLayerFailure::Rejected { cause } => cause,
-        LowerLayerFailure::TimedOut => 0,
-        LowerLayerFailure::Cancelled => 0,
+        _ => 0,
     }
 }
 
@@ -55,7 +53,6 @@ fn lower_of(n: u8, cause: u8) -> LowerLayerFailure
     ensures { result ≡ lower_of n cause }
 {
     match n {
-        0 => LowerLayerFailure::Rejected { cause },
         1 => LowerLayerFailure::TimedOut,
         2 => LowerLayerFailure::Cancelled,
         _ => LowerLayerFailure::Rejected { cause },
@@ -78,9 +75,8 @@ fn failure_lower(f: SenderFailure) -> u8
     ensures { result ≡ failure_lower f }
 {
     match f {
-        SenderFailure::SegmentInterval => 0,
         SenderFailure::LowerLayer(lower) => lower_number(lower),
-        SenderFailure::Peer(_) => 0,
+        _ => 0,
     }
 }
 
@@ -90,7 +86,7 @@ fn failure_value(f: SenderFailure) -> u8
     match f {
         SenderFailure::SegmentInterval => 0,
         SenderFailure::LowerLayer(lower) => cause_or_0(lower),
-        SenderFailure::Peer(status) => status_number(status),
+        SenderFailure::Peer(status) => u8::from(status),
     }
 }
 
@@ -98,7 +94,6 @@ fn failure_of(kind: u8, lower: u8, value: u8) -> SenderFailure
     ensures { result ≡ failure_of kind lower value }
 {
     match kind {
-        0 => SenderFailure::SegmentInterval,
         1 => SenderFailure::LowerLayer(lower_of(lower, value)),
         2 => SenderFailure::Peer(status_of(value)),
         _ => SenderFailure::SegmentInterval,
@@ -125,12 +120,9 @@ fn state_kind(s: SenderState) -> u8
     ensures { result ≡ state_kind s }
 {
     match s {
-        SenderState::Prepared => 0,
-        SenderState::AwaitingAccept => 0,
-        SenderState::AwaitingResponse => 0,
         SenderState::Complete(completion) => completion_number(completion),
         SenderState::Failed(failure) => failure_number(failure),
-        SenderState::Cancelled => 0,
+        _ => 0,
     }
 }
 
@@ -138,12 +130,8 @@ fn state_lower(s: SenderState) -> u8
     ensures { result ≡ state_lower s }
 {
     match s {
-        SenderState::Prepared => 0,
-        SenderState::AwaitingAccept => 0,
-        SenderState::AwaitingResponse => 0,
-        SenderState::Complete(_) => 0,
         SenderState::Failed(failure) => failure_lower(failure),
-        SenderState::Cancelled => 0,
+        _ => 0,
     }
 }
 
@@ -151,15 +139,12 @@ fn state_value(s: SenderState) -> u8
     ensures { result ≡ state_value s }
 {
     match s {
-        SenderState::Prepared => 0,
-        SenderState::AwaitingAccept => 0,
-        SenderState::AwaitingResponse => 0,
-        SenderState::Complete(_) => 0,
         SenderState::Failed(failure) => failure_value(failure),
-        SenderState::Cancelled => 0,
+        _ => 0,
     }
 }
 
+#[tactic(auto, unfolding(crate::specs::States::state_image))]
 pub fn state_octets(s: SenderState) -> [u8; 4]
     ensures { result ≡ state_image s }
 {
@@ -175,7 +160,6 @@ pub fn state_of(n: u8, kind: u8, lower: u8, value: u8) -> SenderState
     ensures { result ≡ state_from n kind lower value }
 {
     match n {
-        0 => SenderState::Prepared,
         1 => SenderState::AwaitingAccept,
         2 => SenderState::AwaitingResponse,
         3 => SenderState::Complete(completion_of(kind)),

@@ -1,20 +1,36 @@
-// Counting cases, and printing what was counted. No contract can say what is printed; each call is safe and ends.
+// Counting cases, and how a count is printed. Each call is safe and ends.
 #![tactic(auto)]
 
-use std::io;
+ghost use Rattle.std.specs.Prelude.{◌≡◌, Some};
+
+use std::fmt;
 
 // Of so many cases that differ the number is printed, and of so many that are malformed; the rest are only counted.
 const MAX_SHOWN: u64 = 5;
 
 // What a case shows: our answer is the recorded one, or another; or the case is none that its list may hold.
-#[derive(Clone, Copy)]
+#[derive(Clone, Copy, Debug, PartialEq, Eq)]
 pub enum Outcome {
     Same,
     Differs,
     Malformed,
 }
 
-#[derive(Clone, Copy)]
+impl fmt::Display for Outcome {
+    ghost use Rattle.tally.specs.Text.{text_of};
+
+    ghost output = { λ outcome. Some (text_of outcome) };
+
+    fn fmt<W: fmt::Write>(&self, f: &mut fmt::Formatter<W>) -> fmt::Result {
+        match self {
+            Outcome::Same => write!(f, "same"),
+            Outcome::Differs => write!(f, "differs"),
+            Outcome::Malformed => write!(f, "malformed"),
+        }
+    }
+}
+
+#[derive(Clone, Copy, Debug, Default, PartialEq, Eq)]
 pub struct Tally {
     pub cases: u64,
     pub same: u64,
@@ -22,53 +38,18 @@ pub struct Tally {
     pub malformed: u64,
 }
 
-pub fn say(rt: &impl Print, text: &[u8]) -> io::Result<()> {
-    rt.write_all(text)
-}
-
-pub fn say_number(rt: &impl Print, n: u64) -> io::Result<()> {
-    print!(rt; "{n}")
-}
-
-// An octet in two hexadecimal digits.
-pub fn say_octet(rt: &impl Print, x: u8) -> io::Result<()> {
-    print!(rt; "{x:02x}")
-}
-
-// One more, as far as numbers go.
-fn more(n: u64) -> u64 {
-    if n < u64::MAX { n + 1 } else { n }
-}
-
 impl Tally {
-    pub fn none() -> Tally {
-        Tally {
-            cases: 0,
-            same: 0,
-            differ: 0,
-            malformed: 0,
-        }
-    }
+    ghost use Rattle.tally.specs.Count.{counted};
 
-    // One more case, with its outcome.
-    pub fn count(self, outcome: Outcome) -> Tally {
-        let next = Tally {
-            cases: more(self.cases),
-            ..self
-        };
+    // One more case, with its outcome. A count that is the largest number stays so.
+    pub fn count(&mut self, outcome: Outcome)
+        ensures { self.new ≡ counted self.old outcome }
+    {
+        self.cases = self.cases.saturating_add(1);
         match outcome {
-            Outcome::Same => Tally {
-                same: more(next.same),
-                ..next
-            },
-            Outcome::Differs => Tally {
-                differ: more(next.differ),
-                ..next
-            },
-            Outcome::Malformed => Tally {
-                malformed: more(next.malformed),
-                ..next
-            },
+            Outcome::Same => self.same = self.same.saturating_add(1),
+            Outcome::Differs => self.differ = self.differ.saturating_add(1),
+            Outcome::Malformed => self.malformed = self.malformed.saturating_add(1),
         }
     }
 
@@ -80,33 +61,25 @@ impl Tally {
             Outcome::Malformed => self.malformed <= MAX_SHOWN,
         }
     }
+}
 
-    // Prints the number of the case that was just counted, and its outcome.
-    pub fn say_case(self, rt: &impl Print, outcome: Outcome) -> io::Result<()> {
-        say(rt, b"  case ")?;
-        say_number(rt, self.cases)?;
-        match outcome {
-            Outcome::Same => say(rt, b": same"),
-            Outcome::Differs => say(rt, b": differs"),
-            Outcome::Malformed => say(rt, b": malformed"),
-        }
-    }
+// What stands behind the name of a list or a group of cases.
+impl fmt::Display for Tally {
+    ghost use Rattle.tally.specs.Text.{line_of};
 
-    // The line of a list or a group of cases.
-    pub fn report(self, rt: &impl Print, name: &[u8]) -> io::Result<()> {
-        say(rt, name)?;
-        say(rt, b": ")?;
-        say_number(rt, self.cases)?;
-        say(rt, b" cases, ")?;
-        say_number(rt, self.same)?;
-        say(rt, b" same, ")?;
-        say_number(rt, self.differ)?;
-        say(rt, b" differ")?;
-        if 0 < self.malformed {
-            say(rt, b", ")?;
-            say_number(rt, self.malformed)?;
-            say(rt, b" malformed")?;
+    ghost output = { λ tally. Some (line_of tally) };
+
+    fn fmt<W: fmt::Write>(&self, f: &mut fmt::Formatter<W>) -> fmt::Result {
+        let Tally {
+            cases,
+            same,
+            differ,
+            malformed,
+        } = *self;
+        write!(f, "{cases} cases, {same} same, {differ} differ")?;
+        if 0 < malformed {
+            write!(f, ", {malformed} malformed")?;
         }
-        say(rt, b"\n")
+        Ok(())
     }
 }

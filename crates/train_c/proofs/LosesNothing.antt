@@ -3,7 +3,7 @@
 use mathlib.Core.Path.{◌≡◌, refl, sym, ap, ap₂, subst, ◌∙◌}
 use mathlib.Core.Bool.{Bool, true, false, cond, not, true≢false}
 use mathlib.Core.List.{List, [], ◌∷◌, ◌++◌}
-use mathlib.Core.Option.{none, some}
+use Rattle.std.specs.Prelude.{Some, None}
 use Prim.Native.Nat.{ℕ, zero, suc, ◌+◌, ◌-◌, ◌≤◌, ◌<◌}
 use native.Mathlib.Nat.{zero-add}
 use native.Mathlib.Omega.{arith}
@@ -30,40 +30,40 @@ first : {k : ℕ} {r : Receiver} {store output : List ℕ} {steps : List Step} {
 first {k} {r} {store} {output} {steps} {t} s h (all a e) =
     let n : k + 1 + length steps ≡ k + suc (length steps) = omega arith in
     all (h, a)
-    (e ∙ ap (λ (n : ℕ). train 0 (last_of r (λ s. s.receiver) (s ∷ steps)) (last_of store (λ s. s.store) (s ∷ steps)) (last_of output (λ s. s.output) (s ∷ steps)) n none none) n)
+    (e ∙ ap (λ (n : ℕ). train 0 (last_of r (λ s. s.receiver) (s ∷ steps)) (last_of store (λ s. s.store) (s ∷ steps)) (last_of output (λ s. s.output) (s ∷ steps)) n None None) n)
 first {k} {r} {store} {output} {steps} {t} s h (behind before s' rest x m p a q b e) =
     let n : k + 1 + (length before + 1) ≡ k + (suc (length before) + 1) = omega arith in
     behind (s ∷ before) s' rest x m (ap (λ (l : List Step). s ∷ l) p) (h, a) q b (e ∙ ap (λ (n : ℕ). train 0 s'.receiver s'.store s'.output n x m) n)
 first {k} {r} {store} {output} {steps} {t} s h (at before s' rest n p a q c e) =
     let i : k + 1 + length before ≡ k + suc (length before) = omega arith in
-    at (s ∷ before) s' rest n (ap (λ (l : List Step). s ∷ l) p) (h, a) q c (e ∙ ap (λ (i : ℕ). train (code_of n) s'.receiver s'.store s'.output i none none) i)
+    at (s ∷ before) s' rest n (ap (λ (l : List Step). s ∷ l) p) (h, a) q c (e ∙ ap (λ (i : ℕ). train (code_of n) s'.receiver s'.store s'.output i None None) i)
 
 module _ (peer : MobileIdentity) (protocol : HigherLayerProtocol) (reading : ℕ) where
   pub ends_from : (l : List (List ℕ)) (k : ℕ) (r : Receiver) (store output : List ℕ)
-      → Ends k r store output (steps_of peer protocol reading l r store output) (train_of peer protocol reading l (train 0 r store output k none none))
+      → Ends k r store output (steps_of peer protocol reading l r store output) (train_of peer protocol reading l (train 0 r store output k None None))
   unfolding train_of steps_of
-  ends_from [] k r store output = all tt (ap (λ (n : ℕ). train 0 r store output n none none) (add_0 k))
+  ends_from [] k r store output = all tt (ap (λ (n : ℕ). train 0 r store output n None None) (add_0 k))
   ends_from (octets ∷ rest) k r store output =
       let s = train_step peer protocol reading r octets store output in
       turn s (steps_of peer protocol reading rest s.receiver s.store s.output) (train_of peer protocol reading rest) s.answer refl
       (λ n e. refused_code peer protocol reading r octets store output n e) (ends_from rest (k + 1) s.receiver s.store s.output)
     where
       turn : (s : Step) (steps : List Step) (go : Train → Train) (a : Answer) → s.answer ≡ a → ((n : ℕ × ℕ) → s.answer ≡ refused n → 256 ≤ code_of n)
-          → Ends (k + 1) s.receiver s.store s.output steps (go (train 0 s.receiver s.store s.output (k + 1) none none))
-          → Ends k r store output (s ∷ steps) (after go (train 0 r store output k none none) a s.receiver s.store s.output)
+          → Ends (k + 1) s.receiver s.store s.output steps (go (train 0 s.receiver s.store s.output (k + 1) None None))
+          → Ends k r store output (s ∷ steps) (after go (train 0 r store output k None None) a s.receiver s.store s.output)
       turn s steps go (refused n) e c h =
-          at [] s steps n refl tt e (c n e) (ap (λ (i : ℕ). train (code_of n) s.receiver s.store s.output i none none) (add_0 k))
-      turn s steps go (answered (some x) m) e c h =
-          behind [] s steps (some x) m refl tt e (λ h. let p = sym e ∙ h.nothing in let z : ◌≡◌ {A = ℕ} 0 1 = cc in omega arith) (ap (λ (i : ℕ). train 0 s.receiver s.store s.output i (some x) m) (one_more k))
-      turn s steps go (answered none (some m)) e c h =
-          behind [] s steps none (some m) refl tt e (λ h. let p = sym e ∙ h.nothing in let z : ◌≡◌ {A = ℕ} 0 1 = cc in omega arith) (ap (λ (i : ℕ). train 0 s.receiver s.store s.output i none (some m)) (one_more k))
-      turn s steps go (answered none none) e c h = onward (taking s.receiver.progress.state) refl
+          at [] s steps n refl tt e (c n e) (ap (λ (i : ℕ). train (code_of n) s.receiver s.store s.output i None None) (add_0 k))
+      turn s steps go (answered (Some x) m) e c h =
+          behind [] s steps (Some x) m refl tt e (λ h. let p = sym e ∙ h.nothing in let z : ◌≡◌ {A = ℕ} 0 1 = cc in omega arith) (ap (λ (i : ℕ). train 0 s.receiver s.store s.output i (Some x) m) (one_more k))
+      turn s steps go (answered None (Some m)) e c h =
+          behind [] s steps None (Some m) refl tt e (λ h. let p = sym e ∙ h.nothing in let z : ◌≡◌ {A = ℕ} 0 1 = cc in omega arith) (ap (λ (i : ℕ). train 0 s.receiver s.store s.output i None (Some m)) (one_more k))
+      turn s steps go (answered None None) e c h = onward (taking s.receiver.progress.state) refl
         where
           onward : (b : Bool) → taking s.receiver.progress.state ≡ b
               → Ends k r store output (s ∷ steps)
-              (cond (not b) (train 0 s.receiver s.store s.output (k + 1) none none) (go (train 0 s.receiver s.store s.output (k + 1) none none)))
+              (cond (not b) (train 0 s.receiver s.store s.output (k + 1) None None) (go (train 0 s.receiver s.store s.output (k + 1) None None)))
           onward true q = first s (record { nothing = e; takes = q }) h
-          onward false q = behind [] s steps none none refl tt e (λ h. true≢false (sym h.takes ∙ q)) (ap (λ (i : ℕ). train 0 s.receiver s.store s.output i none none) (one_more k))
+          onward false q = behind [] s steps None None refl tt e (λ h. true≢false (sym h.takes ∙ q)) (ap (λ (i : ℕ). train 0 s.receiver s.store s.output i None None) (one_more k))
 
 -- ---- what a caller has of it
 
@@ -75,7 +75,7 @@ all_take zero l a = tt
 all_take (suc n) [] a = tt
 all_take (suc n) (s ∷ l) a = (a.0, all_take n l a.1)
 
-empty_at : (l : List Step) (i : ℕ) (d : Step) → AllEmpty l → i < length l → (get_or l i d).answer ≡ answered none none
+empty_at : (l : List Step) (i : ℕ) (d : Step) → AllEmpty l → i < length l → (get_or l i d).answer ≡ answered None None
 empty_at [] i d a h = let z : ⊥ = omega arith in absurd z
 empty_at (s ∷ l) zero d a h = a.0.nothing
 empty_at (s ∷ l) (suc i) d a h = empty_at l i d a.1 (omega arith)

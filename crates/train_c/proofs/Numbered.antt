@@ -2,7 +2,8 @@
 use mathlib.Core.Path.{◌≡◌, subst}
 use mathlib.Core.Bool.{Bool, true, false, cond}
 use mathlib.Core.List.{List, [], ◌∷◌}
-use mathlib.Core.Option.{Option, none, some}
+use Rattle.std.specs.Prelude.{Option, Result, Some, None, Ok, Err}
+use Rattle.tsar.specs.declared.decode.Parsed.{Parsed}
 use Prim.Native.Nat.{ℕ, ◌+◌, ◌/◌, ◌≤◌}
 use native.Mathlib.Omega.{arith}
 use lib.ListN.{length, get_or, drop}
@@ -14,8 +15,6 @@ use Rattle.tsar.specs.declared.Error.{Error}
 use Rattle.tsar.specs.declared.Error.TheVariants as error
 use Rattle.tsar.specs.declared.SegmentType.{SegmentType}
 use Rattle.tsar.specs.declared.SegmentType.TheVariants as type
-use Rattle.tsar.specs.declared.decode.ParamsRead.{ParamsRead}
-use Rattle.tsar.specs.declared.decode.ParamsRead.TheVariants as done
 use Rattle.link.specs.declared.MobileIdentity.{MobileIdentity}
 use Rattle.link.specs.declared.HigherLayerProtocol.{HigherLayerProtocol}
 use Rattle.receiver.specs.declared.Receiver.{Receiver}
@@ -42,9 +41,9 @@ number_1 (error.Field f) = omega arith
 number_1 error.Reserved = omega arith
 number_1 error.DuplicateParameter = omega arith
 
-read_params : (t : SegmentType) (l : List ℕ) (x : ParamsRead) → Read (with_params t l x)
-read_params t l (done.Read x) = tt
-read_params t l (done.Refused e) = number_1 e
+read_params : (t : SegmentType) (l : List ℕ) (x : Result Parsed Error) → Read (with_params t l x)
+read_params t l (Ok x) = tt
+read_params t l (Err e) = number_1 e
 
 -- rows all of which give such a thing, and what is left
 abbrev AllRead : List (Bool × Decoded) → Decoded → Type 0
@@ -93,15 +92,15 @@ abbrev Numbered : List (Bool × Refusal) → Type 0
 Numbered [] = Unit {0}
 Numbered (c ∷ cs) = (1 ≤ c.1.0) × Numbered cs
 
-abbrev Some : Option Refusal → Type 0
-Some none = Unit {0}
-Some (some n) = 1 ≤ n.0
+abbrev OneOrMore : Option Refusal → Type 0
+OneOrMore None = Unit {0}
+OneOrMore (Some n) = 1 ≤ n.0
 
-refusal_1 : (cs : List (Bool × Refusal)) → Numbered cs → Some (refusal cs)
+refusal_1 : (cs : List (Bool × Refusal)) → Numbered cs → OneOrMore (refusal cs)
 refusal_1 [] p = tt
 refusal_1 (c ∷ cs) p = go c.0 (refusal_1 cs p.1)
   where
-    go : (b : Bool) → Some (refusal cs) → Some (cond b (some c.1) (refusal cs))
+    go : (b : Bool) → OneOrMore (refusal cs) → OneOrMore (cond b (Some c.1) (refusal cs))
     go true h = p.0
     go false h = h
 
@@ -117,9 +116,9 @@ late_1 interval true true r a store out = omega arith
 late_1 interval true false r a store out = omega arith
 late_1 interval false p r a store out = settle_1 interval (first_of (slot_rules r a store) keeps) r a store out
 
-after_1 : (interval : ℕ) (o : Option Refusal) (r : Receiver) (a : Arrival) (store out : List ℕ) → Some o → Given (receive_after interval o r a store out).answer
-after_1 interval (some n) r a store out h = h
-after_1 interval none r a store out h =
+after_1 : (interval : ℕ) (o : Option Refusal) (r : Receiver) (a : Arrival) (store out : List ℕ) → OneOrMore o → Given (receive_after interval o r a store out).answer
+after_1 interval (Some n) r a store out h = h
+after_1 interval None r a store out h =
     late_1 interval (late r.progress.deadline_monotonic_ms a.reading) (prohibited r.progress.services.acknowledgment_window) r a store out
 
 receive_1 : (interval : ℕ) (r : Receiver) (a : Arrival) (store out : List ℕ) → Given (receive_of interval r a store out).answer

@@ -1,7 +1,6 @@
 -- What catkhize_receiver_train gives, and what it leaves in each lent buffer: the exports' own tests first, which change nothing, and then the
 -- train, from the record that the buffer spells.
-use Rattle.std.specs.Prelude.{◌≡◌, Bool, true, not, List, [], ◌∷◌, ◌++◌, ℕ, ◌/◌, ltb, length}
-use Rattle.std.proofs.Math.Option.{Option, none}
+use Rattle.std.specs.Prelude.{◌≡◌, Bool, true, not, List, [], ◌∷◌, ◌++◌, ℕ, ◌/◌, ltb, length, Option, None}
 use Rattle.std.proofs.lemmas.List.Edits.{sets}
 use Rattle.tsar.specs.Rows.{Refusal, refusal}
 use Rattle.link.specs.declared.MobileIdentity.{MobileIdentity}
@@ -66,8 +65,8 @@ train_call a = unless_refused (refusal (train_tests a)) (λ n. call n a.image a.
 
 -- past the tests the record's octets spell the receiver that the train leaves
 pub record Spells (a : Asked) (image : List ℕ) : Type 0 where
-  pub whole : refusal (train_tests a) ≡ none → image_ok image ≡ true
-  pub next : refusal (train_tests a) ≡ none → record_of image ≡ (train_asked a).receiver
+  pub whole : refusal (train_tests a) ≡ None → image_ok image ≡ true
+  pub next : refusal (train_tests a) ≡ None → record_of image ≡ (train_asked a).receiver
 
 -- what the export ensures
 abbrev pub Met : Asked → Call → Type 0

@@ -1,9 +1,8 @@
 -- Laws of trains: one segment after another, parts of octets, and the two ways in which the call returns. Assumes nothing.
-use Rattle.std.specs.Prelude.{◌≡◌, refl, Bool, true, false, cond, ℕ, suc, ◌+◌, ◌-◌, ◌*◌, ◌/◌, ◌≤◌, ◌<◌, min, length, take, drop}
+use Rattle.std.specs.Prelude.{◌≡◌, refl, Bool, true, false, cond, ℕ, suc, ◌+◌, ◌-◌, ◌*◌, ◌/◌, ◌≤◌, ◌<◌, min, length, take, drop, Option, Result, Some, None, Ok, Err}
 use Rattle.std.proofs.Common.{sym, ◌∙◌, ⊎_elim, arith, length-drop, drop_of_length-le, take_all, drop-drop}
 use Rattle.std.proofs.Math.Path.{ap, ap₂}
 use mathlib.Core.List.{List}
-use Rattle.std.proofs.Math.Option.{Option, none, some}
 use Rattle.std.proofs.Math.Nat.{min-eq_left, min-eq_right}
 use Rattle.std.proofs.lemmas.List.Edits.{sets}
 use Rattle.octets.specs.Laws.{le_or_lt}
@@ -13,8 +12,6 @@ use Rattle.tsar.specs.Reading.{Decoded, told_of, told_by, decoded_by, segment_of
 use Rattle.tsar.proofs.Told.{told_whole}
 use Rattle.tsar.specs.declared.Error.{Error}
 use Rattle.tsar.specs.declared.DecodedSegment.{DecodedSegment}
-use Rattle.tsar.specs.declared.decode.DecodeAnswer.{DecodeAnswer}
-use Rattle.tsar.specs.declared.decode.DecodeAnswer.TheVariants as read
 use Rattle.link.specs.declared.MobileIdentity.{MobileIdentity}
 use Rattle.link.specs.declared.HigherLayerProtocol.{HigherLayerProtocol}
 use Rattle.receiver.specs.declared.Receiver.{Receiver}
@@ -64,17 +61,17 @@ module _ (peer : MobileIdentity) (protocol : HigherLayerProtocol) (reading : ℕ
   step_by d e = ap (λ (x : Decoded). decoded_step peer protocol reading x r store output) e
 
   -- decoding refuses it
-  pub step_refused : (a : DecodeAnswer) (e : Error) → a ≡ read.Refused e → told_by a ≡ told_of (decode_of r.terms.version octets)
+  pub step_refused : (a : Result DecodedSegment Error) (e : Error) → a ≡ Err e → told_by a ≡ told_of (decode_of r.terms.version octets)
       → refuses (number e) r store output ≡ train_step peer protocol reading r octets store output
-  step_refused a e p q = step_by (decoded_by octets (read.Refused e)) (ap (decoded_by octets) (sym p) ∙ told_whole r.terms.version octets a q)
+  step_refused a e p q = step_by (decoded_by octets (Err e)) (ap (decoded_by octets) (sym p) ∙ told_whole r.terms.version octets a q)
 
   -- it is decoded, and received with its data
-  pub step_decoded : (a : DecodeAnswer) (d : DecodedSegment) (l : List ℕ) → a ≡ read.Decoded d → told_by a ≡ told_of (decode_of r.terms.version octets) → l ≡ take d.head.segment_data_length (drop 3 octets)
+  pub step_decoded : (a : Result DecodedSegment Error) (d : DecodedSegment) (l : List ℕ) → a ≡ Ok d → told_by a ≡ told_of (decode_of r.terms.version octets) → l ≡ take d.head.segment_data_length (drop 3 octets)
       → receive_of (interval_of r) r (record { peer = peer; protocol = protocol; segment = d.head.segment; octets = l; unparsed = d.unparsed_octets; reading = reading }) store output
       ≡ train_step peer protocol reading r octets store output
   step_decoded a d l p q e =
       ap (λ (x : List ℕ). receive_of (interval_of r) r (record { peer = peer; protocol = protocol; segment = d.head.segment; octets = x; unparsed = d.unparsed_octets; reading = reading }) store output) e
-      ∙ step_by (decoded_by octets (read.Decoded d)) (ap (decoded_by octets) (sym p) ∙ told_whole r.terms.version octets a q)
+      ∙ step_by (decoded_by octets (Ok d)) (ap (decoded_by octets) (sym p) ∙ told_whole r.terms.version octets a q)
 
 -- ---- one segment after another
 
@@ -146,12 +143,12 @@ pub train_put : (l x y : List ℕ) (n : ℕ) (response : Option Reported) (messa
 unfolding train_image
 train_put l x y n response message p q = put_next l 0 (spell 8 n) (reception_image response message) x y 8 8 p (length_spell 8 n) refl q
 
-apart : {A : Type 0} {o : Option A} {x : A} → o ≡ some x → o ≡ none → ⊥
+apart : {A : Type 0} {o : Option A} {x : A} → o ≡ Some x → o ≡ None → ⊥
 apart p q = let z : ◌≡◌ {A = ℕ} 0 1 = cc in omega arith
 
 module _ (a : Asked) where
   -- a test refuses it
-  pub train_refused : (x : Refusal) → refusal (train_tests a) ≡ some x → Met a (call (code_of x) a.image a.store a.output a.answer)
+  pub train_refused : (x : Refusal) → refusal (train_tests a) ≡ Some x → Met a (call (code_of x) a.image a.store a.output a.answer)
   unfolding train_call
   train_refused x e = (
     ap (λ (o : Option Refusal). unless_refused o (λ n. call n a.image a.store a.output a.answer) (train_done a (train_asked a))) (sym e),
@@ -166,7 +163,7 @@ module _ (a : Asked) where
       ∙ ap₂ (λ (x : Receiver) (y : HigherLayerProtocol). train_of a.peer y a.reading (segments_of (length a.lengths / 2) a.lengths a.octets) (start_of x a.store a.output)) u v
 
   -- then record and answer were written
-  pub train_done_lem : (t : Train) (image answer : List ℕ) → refusal (train_tests a) ≡ none → 3931 ≤ length a.image → t ≡ train_asked a → ReceiverFits t.receiver
+  pub train_done_lem : (t : Train) (image answer : List ℕ) → refusal (train_tests a) ≡ None → 3931 ≤ length a.image → t ≡ train_asked a → ReceiverFits t.receiver
       → image ≡ sets a.image 0 (image_of t.receiver) → answer ≡ sets a.answer 0 (train_image t.received t.response t.message)
       → Met a (call t.code image t.store t.output answer)
   unfolding train_call

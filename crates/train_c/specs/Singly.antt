@@ -1,7 +1,6 @@
 -- A train beside single calls: the steps of its segments, each decoded and received on what the one before it left, where among them a train
 -- ends, and what a caller gives to the next call.
-use Rattle.std.specs.Prelude.{◌≡◌, true, List, [], ◌∷◌, ◌++◌, ℕ, zero, suc, ◌+◌, ◌-◌, ◌*◌, ◌/◌, ◌≤◌, ◌<◌, length, get_or, take, drop}
-use Rattle.std.proofs.Math.Option.{Option, none}
+use Rattle.std.specs.Prelude.{◌≡◌, true, List, [], ◌∷◌, ◌++◌, ℕ, zero, suc, ◌+◌, ◌-◌, ◌*◌, ◌/◌, ◌≤◌, ◌<◌, length, get_or, take, drop, Option, None}
 use Rattle.tsar.specs.Rows.{Refusal}
 use Rattle.link.specs.declared.MobileIdentity.{MobileIdentity}
 use Rattle.link.specs.declared.HigherLayerProtocol.{HigherLayerProtocol}
@@ -28,7 +27,7 @@ last_of a f (s ∷ rest) = last_of (f s) f rest
 
 -- a segment that was received and answered with no response and no message, and the receiver takes more
 pub record Empty (s : Step) : Type 0 where
-  pub nothing : s.answer ≡ answered none none
+  pub nothing : s.answer ≡ answered None None
   pub takes : taking s.receiver.progress.state ≡ true
 
 -- all of them
@@ -41,13 +40,13 @@ AllEmpty (s ∷ rest) = Empty s × AllEmpty rest
 -- response and no message
 pub data Ends (k : ℕ) (r : Receiver) (store output : List ℕ) (steps : List Step) (t : Train) : Type 0 where
   all : AllEmpty steps
-      → t ≡ train 0 (last_of r (λ s. s.receiver) steps) (last_of store (λ s. s.store) steps) (last_of output (λ s. s.output) steps) (k + length steps) none none
+      → t ≡ train 0 (last_of r (λ s. s.receiver) steps) (last_of store (λ s. s.store) steps) (last_of output (λ s. s.output) steps) (k + length steps) None None
       → Ends k r store output steps t
   behind : (before : List Step) (s : Step) (rest : List Step) (x : Option Reported) (m : Option ℕ) → steps ≡ before ++ s ∷ rest → AllEmpty before
       → s.answer ≡ answered x m → (Empty s → ⊥) → t ≡ train 0 s.receiver s.store s.output (k + (length before + 1)) x m
       → Ends k r store output steps t
   at : (before : List Step) (s : Step) (rest : List Step) (n : Refusal) → steps ≡ before ++ s ∷ rest → AllEmpty before → s.answer ≡ refused n
-      → 256 ≤ code_of n → t ≡ train (code_of n) s.receiver s.store s.output (k + length before) none none → Ends k r store output steps t
+      → 256 ≤ code_of n → t ≡ train (code_of n) s.receiver s.store s.output (k + length before) None None → Ends k r store output steps t
 
 -- what a caller of a train has: of the segments that were received all but the last carried nothing and left the receiver taking, and the
 -- last stands in the answer; with 0 the call leaves what the last of them left, and going on with the segments that were not received makes
@@ -61,7 +60,7 @@ pub record Kept (peer : MobileIdentity) (protocol : HigherLayerProtocol) (readin
   pub output_left : t.code ≡ 0 → t.output ≡ last_of output (λ s. s.output) (take t.received steps)
   pub onward : t.code ≡ 0 → steps_of peer protocol reading (drop t.received l) t.receiver t.store t.output ≡ drop t.received steps
   pub moves : t.code ≡ 0 → 0 < length steps → 0 < t.received
-  pub beside : 0 < t.code → (t.response ≡ none) × (t.message ≡ none)
+  pub beside : 0 < t.code → (t.response ≡ None) × (t.message ≡ None)
 
 -- of the very train that the export's contract cites
 abbrev pub LosesNothing : Type 0

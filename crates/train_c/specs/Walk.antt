@@ -1,7 +1,6 @@
 -- What a train does: its segments are decoded under the record's version and received one after another, up to the first that is refused, or
 -- whose reception carries a response or a message, or that leaves a receiver that takes no segments.
-use Rattle.std.specs.Prelude.{Bool, true, false, cond, not, ◌||◌, List, [], ◌∷◌, ℕ, zero, suc, ◌+◌, take, drop}
-use Rattle.std.proofs.Math.Option.{Option, none, some}
+use Rattle.std.specs.Prelude.{Bool, true, false, cond, not, ◌||◌, List, [], ◌∷◌, ℕ, zero, suc, ◌+◌, take, drop, Option, Some, None}
 use Rattle.tsar.specs.Layout.{WholeSegment}
 use Rattle.tsar.specs.Reading.{Decoded, decoded, refused as unread, segment_of as decode_of}
 use Rattle.link.specs.declared.MobileIdentity.{MobileIdentity}
@@ -11,7 +10,6 @@ use Rattle.receiver.specs.declared.Reported.{Reported}
 use Rattle.receiver.specs.Record.{interval_of, taking}
 use Rattle.receiver.specs.Answers.{Answer, refused, answered, Step, refuses}
 use Rattle.receiver.specs.Receive.{Arrival, receive_of}
-use Rattle.receiver.specs.Says.{reply_says, message_says}
 use Rattle.codec_c.specs.Codes.{code_of}
 use Rattle.image.specs.Numbers.{number_of}
 use Rattle.train_c.specs.declared.Walked.{Walked}
@@ -38,13 +36,13 @@ train code r store output n response message =
 
 -- before its first segment
 abbrev pub start_of : Receiver → List ℕ → List ℕ → Train
-start_of r store output = train 0 r store output 0 none none
+start_of r store output = train 0 r store output 0 None None
 
 -- whether a reception carries anything: a response, or a message
 abbrev pub carries : Option Reported → Option ℕ → Bool
-carries none none = false
-carries none (some n) = true
-carries (some x) message = true
+carries None None = false
+carries None (Some n) = true
+carries (Some x) message = true
 
 -- whether a reception ends the train: it carries something, or it leaves a receiver that takes no segments
 abbrev pub stops : Option Reported → Option ℕ → Receiver → Bool
@@ -88,4 +86,4 @@ module _ (peer : MobileIdentity) (protocol : HigherLayerProtocol) (reading : ℕ
 
 -- what code says of a train, with the store and the output that it left
 abbrev pub walked : Walked → List ℕ → List ℕ → Train
-walked w store output = train w.code w.receiver store output w.received (reply_says w.reception.response) (message_says w.reception.message)
+walked w store output = train w.code w.receiver store output w.received w.reception.response w.reception.message

@@ -4,20 +4,19 @@
 ghost use Rattle.std.specs.Prelude.{◌≡◌, ◌||◌, not, ◌+◌, ◌/◌, ◌≤◌, min, length, take, drop};
 ghost use Rattle.std.proofs.lemmas.List.Edits.{sets};
 ghost use Rattle.receiver.specs.Record.{taking as taking_of};
-ghost use Rattle.receiver.specs.Says.{reply_says, message_says};
-ghost use Rattle.train_c.specs.Walk.{carries as carries_of, segments_of, start_of, train_of, walked};
+ghost use Rattle.receiver.specs.Says.{received};
+ghost use Rattle.train_c.specs.Walk.{carries as carries_of, segments_of, start_of, train_step, train_of, walked};
 ghost use Rattle.train_c.specs.Calls.{call, train_image, Met};
 
 use codec_c::codes::{DONE, MISSPELLED, SHORT, UNNAMED};
 use image::cases::protocol_of;
-use image::numbers::{number16, put64};
+use image::numbers;
 use link::{HigherLayerProtocol, MobileIdentity};
-use receiver::states::{either, smaller, taking, wide};
-use receiver::{Message, ReceiveAnswer, ReceiveError, Receiver, ReceiverState, Reception, Reply};
+use receiver::{Call, ReceiveError, Receiver, ReceiverState, Reception};
 use receiver_answers::{RECEPTION_OCTETS, error_code, put_received};
 use receiver_image::{RECEIVER_OCTETS, get_receiver, put_receiver};
 use tsar::HEADER_OCTETS;
-use tsar::decode::{DecodeAnswer, decode_segment};
+use tsar::decode::decode_segment;
 
 // TRAIN: its number of segments, and RECEPTION.
 const COUNT_OCTETS: usize = 8;
@@ -43,8 +42,8 @@ struct Walked {
 fn part(octets: &[u8], from: usize, n: usize) -> &[u8]
     ensures { result.now ≡ take n (drop from octets.now) }
 {
-    let start = smaller(from, octets.len());
-    let until = start + smaller(n, octets.len() - start);
+    let start = from.min(octets.len());
+    let until = start + n.min(octets.len() - start);
     &octets[start..until]
 }
 
@@ -52,35 +51,54 @@ fn part(octets: &[u8], from: usize, n: usize) -> &[u8]
 fn next(all: usize, at: usize, n: usize) -> usize
     ensures { result ≡ min (at + n) all }
 {
-    if all < at {
-        return all;
-    }
-    if all - at < n {
-        return all;
-    }
-    at + n
+    at.saturating_add(n).min(all)
 }
 
 // Whether a reception carries anything: a response, or a message.
 fn carries(reception: Reception) -> bool
-    ensures { result ≡ carries_of (reply_says reception.response) (message_says reception.message) }
+    ensures { result ≡ carries_of reception.response reception.message }
 {
-    let response = reception.response;
-    let message = reception.message;
-    match response {
-        Reply::Response(_) => true,
-        Reply::Nothing => match message {
-            Message::Octets(_) => true,
-            Message::Nothing => false,
-        },
-    }
+    reception.response.is_some() || reception.message.is_some()
 }
 
-// Whether a reception that leaves this state ends a train.
+// Whether a reception that leaves this state ends a train: it carries something, or the state takes no segments.
 fn stops(reception: Reception, state: ReceiverState) -> bool
-    ensures { result ≡ (carries_of (reply_says reception.response) (message_says reception.message) || not (taking_of state)) }
+    ensures { result ≡ (carries_of reception.response reception.message || not (taking_of state)) }
 {
-    either(carries(reception), !taking(state))
+    carries(reception) || !state.is_taking()
+}
+
+// A segment is decoded under the receiver's version and received.
+fn step(
+    receiver: Receiver,
+    peer: MobileIdentity,
+    protocol: HigherLayerProtocol,
+    octets: &[u8],
+    reading: u64,
+    store: &mut [u8],
+    output: &mut [u8],
+) -> Call<Reception>
+    ensures { received result store.new output.new ≡ train_step peer protocol reading receiver octets.now store.old output.old }
+{
+    match decode_segment(octets, receiver.terms.version) {
+        Err(e) => Call {
+            answer: Err(ReceiveError::Codec(e)),
+            receiver,
+        },
+        Ok(decoded) => {
+            let end = HEADER_OCTETS + decoded.head.segment_data_length;
+            receiver.receive(
+                peer,
+                protocol,
+                decoded.head.segment,
+                &octets[HEADER_OCTETS..end],
+                decoded.unparsed_octets,
+                reading,
+                store,
+                output,
+            )
+        }
+    }
 }
 
 // The segments of a train one after another, up to the first that is refused, or whose reception ends the train.
@@ -97,71 +115,41 @@ fn walk(
     ensures { walked result store.new output.new ≡ train_of peer protocol reading (segments_of (length lengths.now / 2) lengths.now octets.now) (start_of receiver store.old output.old) }
 {
     let mut reception = Reception {
-        response: Reply::Nothing,
-        message: Message::Nothing,
+        response: None,
+        message: None,
     };
     let count = lengths.len() / LENGTH_OCTETS;
     let mut at: usize = 0;
-    let mut i: usize = 0;
-    while i < count {
-        let n = wide(number16(lengths, LENGTH_OCTETS * i));
+    for i in 0..count {
+        let length: u16 = numbers::read(lengths, LENGTH_OCTETS * i);
+        let n = usize::from(length);
         let segment = part(octets, at, n);
-        let terms = receiver.terms;
-        match decode_segment(segment, terms.version) {
-            DecodeAnswer::Refused(e) => {
+        let out = step(receiver, peer, protocol, segment, reading, store, output);
+        receiver = out.receiver;
+        match out.answer {
+            Err(e) => {
                 return Walked {
-                    code: error_code(ReceiveError::Codec(e)),
+                    code: error_code(e),
                     received: i as u64,
                     reception,
                     receiver,
                 };
             }
-            DecodeAnswer::Decoded(decoded) => {
-                let head = decoded.head;
-                let end = HEADER_OCTETS + head.segment_data_length;
-                let out = receiver.receive(
-                    peer,
-                    protocol,
-                    head.segment,
-                    &segment[HEADER_OCTETS..end],
-                    decoded.unparsed_octets,
-                    reading,
-                    store,
-                    output,
-                );
-                receiver = out.receiver;
-                let answer = out.answer;
-                match answer {
-                    ReceiveAnswer::Refused(e) => {
-                        return Walked {
-                            code: error_code(e),
-                            received: i as u64,
-                            reception,
-                            receiver,
-                        };
-                    }
-                    ReceiveAnswer::Received(last) => {
-                        reception = last;
-                    }
-                }
-                let progress = receiver.progress;
-                let state = progress.state;
-                at = next(octets.len(), at, n);
-                i += 1;
-                if stops(reception, state) {
-                    return Walked {
-                        code: DONE,
-                        received: i as u64,
-                        reception,
-                        receiver,
-                    };
-                }
-            }
+            Ok(last) => reception = last,
+        }
+        at = next(octets.len(), at, n);
+        if stops(reception, receiver.progress.state) {
+            return Walked {
+                code: DONE,
+                received: (i + 1) as u64,
+                reception,
+                receiver,
+            };
         }
     }
     Walked {
         code: DONE,
-        received: i as u64,
+        received: count as u64,
         reception,
         receiver,
     }
@@ -170,9 +158,9 @@ fn walk(
 // TRAIN at the front of octets: how many segments were received, and what the last of them was answered.
 fn put_train(answer: &mut [u8], received: u64, reception: Reception)
     requires { 63 ≤ length answer.old }
-    ensures { answer.new ≡ sets answer.old 0 (train_image received (reply_says reception.response) (message_says reception.message)) }
+    ensures { answer.new ≡ sets answer.old 0 (train_image received reception.response reception.message) }
 {
-    put64(answer, 0, received);
+    numbers::put(answer, 0, received);
     put_received(answer, COUNT_OCTETS, reception);
 }
 
@@ -203,14 +191,12 @@ pub extern "C" fn catkhize_receiver_train(
     if answer.len() < TRAIN_OCTETS {
         return SHORT;
     }
-    let read = get_receiver(record);
-    if !read.ok {
+    let Some(receiver) = get_receiver(record) else {
         return MISSPELLED;
-    }
+    };
     if LAST_PROTOCOL < protocol {
         return UNNAMED;
     }
-    let receiver = read.receiver;
     let end = walk(
         receiver,
         MobileIdentity {
@@ -225,9 +211,7 @@ pub extern "C" fn catkhize_receiver_train(
         store,
         output,
     );
-    let left = end.receiver;
-    put_receiver(record, left);
-    let reception = end.reception;
-    put_train(answer, end.received, reception);
+    put_receiver(record, end.receiver);
+    put_train(answer, end.received, end.reception);
     end.code
 }

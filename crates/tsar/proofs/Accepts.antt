@@ -11,8 +11,8 @@ use lib.ListN.{length, get_or, take, drop, length-append, length-drop, take-appe
 use lib.Seq.{drop-drop, drop_at, take_at, length-take-le}
 use Rattle.tsar.specs.declared.decode.Params.{Params}
 use Rattle.tsar.specs.declared.decode.Parsed.{Parsed}
-use Rattle.tsar.specs.declared.decode.ParamsRead.{ParamsRead}
-use Rattle.tsar.specs.declared.decode.ParamsRead.TheVariants as done
+use Rattle.std.specs.Prelude.{Result, Ok, Err}
+use Rattle.tsar.specs.declared.Error.{Error}
 use Rattle.tsar.specs.declared.SegmentType.{SegmentType}
 use Rattle.tsar.specs.declared.SegmentType.TheVariants as type
 use Rattle.tsar.specs.declared.SegmentKind.{SegmentKind}
@@ -62,7 +62,7 @@ module _ (v : ℕ) (fine : 1 ≤ v) (t : SegmentType) (a b c : ℕ) (r : List �
   abbrev l : List ℕ
   l = a ∷ b ∷ c ∷ r
 
-  built : (x : Parsed) → Run t no_params (3 + c) (drop (3 + c) l) x.params x.at → Good v l (with_params t l (done.Read x))
+  built : (x : Parsed) → Run t no_params (3 + c) (drop (3 + c) l) x.params x.at → Good v l (with_params t l (Ok x))
   built x run =
       let q = x.params in
       let s : WholeSegment = record { transaction_id = a % 8; sequence_number = b; segment_data = take c r; kind = kind_of t q } in
@@ -89,9 +89,9 @@ module _ (v : ℕ) (fine : 1 ≤ v) (t : SegmentType) (a b c : ℕ) (r : List �
         },
       )
 
-  params_good : (p : ParamsRead) → RunSound t no_params (3 + c) (drop (3 + c) l) p → Good v l (with_params t l p)
-  params_good (done.Read x) h = built x h
-  params_good (done.Refused n) h = tt
+  params_good : (p : Result Parsed Error) → RunSound t no_params (3 + c) (drop (3 + c) l) p → Good v l (with_params t l p)
+  params_good (Ok x) h = built x h
+  params_good (Err n) h = tt
 
 as_good : (v : ℕ) → 1 ≤ v → (t : SegmentType) (l : List ℕ) → Octets l → get_or l 0 0 / 8 ≡ type_no t → get_or l 0 0 < 64 → Good v l (segment_as t l)
 unfolding segment_as
@@ -141,7 +141,7 @@ head_back v type.End a r f e h = simp (le-ltb v 1 f, ne_eqb (length (a ∷ r)) 0
 
 as_back : (s : WholeSegment) (ps : List Param) (rest : List ℕ) → Fits s → ParamsFit ps → Unnamed (type_of s.kind) rest
     → run_params (suc (length (params_octets ps ++ rest))) (type_of s.kind) no_params (3 + length s.segment_data) (params_octets ps ++ rest)
-    ≡ done.Read (record { params = params_in s.kind; at = 3 + length s.segment_data + length (params_octets ps) })
+    ≡ Ok (record { params = params_in s.kind; at = 3 + length s.segment_data + length (params_octets ps) })
     → segment_as (type_of s.kind) (octets_with ps s ++ rest) ≡ decoded s (length rest)
 unfolding segment_as
 as_back s ps rest f w u run =

@@ -7,10 +7,9 @@ use native.Mathlib.Omega.{arith}
 use lib.ListN.{length, drop, length-append}
 use lib.Seq.{get_or-drop, drop_at}
 use Rattle.tsar.specs.declared.decode.Params.{Params}
-use Rattle.tsar.specs.declared.decode.Step.{Step}
-use Rattle.tsar.specs.declared.decode.Step.TheVariants.{Taken, Stop, Refused}
-use Rattle.tsar.specs.declared.decode.ParamsRead.{ParamsRead}
-use Rattle.tsar.specs.declared.decode.ParamsRead.TheVariants as done
+use Rattle.std.specs.Prelude.{Option, Result, Some, None, Ok, Err}
+use Rattle.tsar.specs.declared.Error.{Error}
+use Rattle.tsar.specs.declared.decode.Parsed.{Parsed}
 use Rattle.tsar.specs.declared.SegmentType.{SegmentType}
 use Rattle.tsar.specs.Layout.{Param, stated, services, crc16, crc24}
 use Rattle.tsar.specs.Octets.{param_octets, params_octets, ParamsFit}
@@ -41,13 +40,13 @@ pub record Run (t : SegmentType) (p : Params) (at : ℕ) (l : List ℕ) (q : Par
   pub stops : Unnamed t rest
 
 -- what the loop answers is a run
-abbrev pub RunSound : SegmentType → Params → ℕ → List ℕ → ParamsRead → Type 0
-RunSound t p at l (done.Read x) = Run t p at l x.params x.at
-RunSound t p at l (done.Refused n) = Unit {0}
+abbrev pub RunSound : SegmentType → Params → ℕ → List ℕ → Result Parsed Error → Type 0
+RunSound t p at l (Ok x) = Run t p at l x.params x.at
+RunSound t p at l (Err n) = Unit {0}
 
 -- a parameter in front of a run
-in_front : (t : SegmentType) (p : Params) (at : ℕ) (l : List ℕ) (q : Params) (n : ℕ) → Stands t p l q n → (r : ParamsRead) → RunSound t q (at + n) (drop n l) r → RunSound t p at l r
-in_front t p at l q n s (done.Read x) h =
+in_front : (t : SegmentType) (p : Params) (at : ℕ) (l : List ℕ) (q : Params) (n : ℕ) → Stands t p l q n → (r : Result Parsed Error) → RunSound t q (at + n) (drop n l) r → RunSound t p at l r
+in_front t p at l q n s (Ok x) h =
     let a = length-append (param_octets s.what) (params_octets h.order) in
     record {
       order = s.what ∷ h.order;
@@ -58,14 +57,14 @@ in_front t p at l q n s (done.Read x) h =
       reached = omega (arith, h.reached, s.size, a);
       stops = h.stops;
     }
-in_front t p at l q n s (done.Refused m) h = tt
+in_front t p at l q n s (Err m) h = tt
 
-on_step_lem : (t : SegmentType) (p : Params) (at : ℕ) (l : List ℕ) (go : Params → ℕ → ParamsRead) (s : Step) → Sound t p l s
+on_step_lem : (t : SegmentType) (p : Params) (at : ℕ) (l : List ℕ) (go : Params → ℕ → Result Parsed Error) (s : Result (Option (Params × ℕ)) Error) → Sound t p l s
     → ((q : Params) (n : ℕ) → Stands t p l q n → RunSound t q (at + n) (drop n l) (go q n))
-    → RunSound t p at l (on_step go (done.Read (record { params = p; at = at })) s)
-on_step_lem t p at l go (Taken q n) s ih = in_front t p at l q n s (go q n) (ih q n s)
-on_step_lem t p at l go Stop s ih = record { order = []; rest = l; takes = refl; fit = tt; front = refl; reached = sym (add-zero at); stops = s }
-on_step_lem t p at l go (Refused n) s ih = tt
+    → RunSound t p at l (on_step go (Ok (record { params = p; at = at })) s)
+on_step_lem t p at l go (Ok (Some (q, n))) s ih = in_front t p at l q n s (go q n) (ih q n s)
+on_step_lem t p at l go (Ok None) s ih = record { order = []; rest = l; takes = refl; fit = tt; front = refl; reached = sym (add-zero at); stops = s }
+on_step_lem t p at l go (Err n) s ih = tt
 
 -- octets past some octets
 pub octets_drop : (l : List ℕ) (n : ℕ) → Octets l → Octets (drop n l)
@@ -89,7 +88,7 @@ run_sound (suc f) t p at l o h =
 -- and what is a chain of parameters the loop accepts
 pub run_back : (f : ℕ) (ps : List Param) (t : SegmentType) (p : Params) (at : ℕ) (rest : List ℕ) (q : Params)
     → Takes t p ps q → ParamsFit ps → Unnamed t rest → length (params_octets ps ++ rest) < f
-    → run_params f t p at (params_octets ps ++ rest) ≡ done.Read (record { params = q; at = at + length (params_octets ps) })
+    → run_params f t p at (params_octets ps ++ rest) ≡ Ok (record { params = q; at = at + length (params_octets ps) })
 unfolding run_params
 run_back zero ps t p at rest q k w u h = absurd (omega arith)
 run_back (suc f) [] t p at rest q k w u h = rw (stopped t p rest u, k, add-zero)

@@ -2,13 +2,11 @@
 -- answers a number. Assumes nothing.
 use mathlib.Core.Path.{◌≡◌, refl, ap, ◌∙◌}
 use mathlib.Core.List.{List, [], ◌∷◌, ◌++◌}
-use mathlib.Core.Option.{Option, none, some}
+use Rattle.std.specs.Prelude.{Option, Some, None}
 use Prim.Native.Nat.{ℕ, zero, suc, ◌+◌, ◌*◌, ◌/◌, ◌%◌, ◌≤◌}
 use native.Mathlib.Omega.{arith}
 use borrow.Author.Tests.{ltb-false}
 use lib.ListN.{length, length-append}
-use Rattle.tsar.specs.declared.MessageLength.TheVariants as len
-use Rattle.tsar.specs.declared.Services.TheVariants as optional
 use Rattle.tsar.specs.declared.MessageCrc.TheVariants as crc
 use Rattle.tsar.specs.declared.SegmentKind.{SegmentKind}
 use Rattle.tsar.specs.declared.SegmentKind.TheVariants as kind'
@@ -56,18 +54,18 @@ data_width (o ∷ l) = omega (arith, data_width l)
 -- the bits of the parameters, with the 24 of the header
 params_width : (k : SegmentKind) → 24 + widths (params_fields (parameters k)) ≡ 8 * header_octets k
 unfolding header_octets
-params_width (kind'.Begin len.Unstated optional.Absent) = refl
-params_width (kind'.Begin len.Unstated (optional.SpelledOut s)) = refl
-params_width (kind'.Begin (len.Stated n) optional.Absent) = refl
-params_width (kind'.Begin (len.Stated n) (optional.SpelledOut s)) = refl
-params_width (kind'.Continue len.Unstated) = refl
-params_width (kind'.Continue (len.Stated n)) = refl
-params_width (kind'.End len.Unstated crc.Absent) = refl
-params_width (kind'.End len.Unstated (crc.Crc16 v)) = refl
-params_width (kind'.End len.Unstated (crc.Crc24 v)) = refl
-params_width (kind'.End (len.Stated n) crc.Absent) = refl
-params_width (kind'.End (len.Stated n) (crc.Crc16 v)) = refl
-params_width (kind'.End (len.Stated n) (crc.Crc24 v)) = refl
+params_width (kind'.Begin None None) = refl
+params_width (kind'.Begin None (Some s)) = refl
+params_width (kind'.Begin (Some n) None) = refl
+params_width (kind'.Begin (Some n) (Some s)) = refl
+params_width (kind'.Continue None) = refl
+params_width (kind'.Continue (Some n)) = refl
+params_width (kind'.End None None) = refl
+params_width (kind'.End None (Some (crc.Crc16 v))) = refl
+params_width (kind'.End None (Some (crc.Crc24 v))) = refl
+params_width (kind'.End (Some n) None) = refl
+params_width (kind'.End (Some n) (Some (crc.Crc16 v))) = refl
+params_width (kind'.End (Some n) (Some (crc.Crc24 v))) = refl
 
 -- what is written of a segment is its header octets and its data
 pub written_count : (s : WholeSegment) → length (written s) ≡ header_octets s.kind + length s.segment_data
@@ -80,9 +78,9 @@ written_count s =
     octets_count (header_octets s.kind + length s.segment_data) (bits fs)
     (bits_count fs ∙ omega (arith, w, widths_append d p, data_width s.segment_data, params_width s.kind))
 
-accepted : (o : Option Refusal) (l out : List ℕ) (n : ℕ) → (after_tests o l out).answer ≡ wrote n → (o ≡ none) × (n ≡ length l)
-accepted (some r) l out n e = let z : ◌≡◌ {A = ℕ} 0 1 = cc in absurd (omega arith)
-accepted none l out n e = (refl, cc)
+accepted : (o : Option Refusal) (l out : List ℕ) (n : ℕ) → (after_tests o l out).answer ≡ wrote n → (o ≡ None) × (n ≡ length l)
+accepted (Some r) l out n e = let z : ◌≡◌ {A = ℕ} 0 1 = cc in absurd (omega arith)
+accepted None l out n e = (refl, cc)
 
 -- where writing answers a number, it is that of the header octets and of the data
 pub wrote_count : (v : ℕ) (s : Segment) (l out : List ℕ) (n : ℕ) → (encode_of v s l out).answer ≡ wrote n → n ≡ header_octets s.kind + length l
@@ -90,7 +88,7 @@ unfolding encode_of
 wrote_count v s l out n e = (accepted (refusal (encode_rows v s l out)) (written (whole s l)) out n e).1 ∙ written_count (whole s l)
 
 -- and it answers that number where no test holds
-pub wrote_all : (v : ℕ) (s : Segment) (l out : List ℕ) → refusal (encode_rows v s l out) ≡ none → (encode_of v s l out).answer ≡ wrote (header_octets s.kind + length l)
+pub wrote_all : (v : ℕ) (s : Segment) (l out : List ℕ) → refusal (encode_rows v s l out) ≡ None → (encode_of v s l out).answer ≡ wrote (header_octets s.kind + length l)
 unfolding encode_of
 wrote_all v s l out e = ap (λ (o : Option Refusal). (after_tests o (written (whole s l)) out).answer) e ∙ ap wrote (written_count (whole s l))
 

@@ -7,7 +7,7 @@ pub mod Accepts
 pub mod Passes
 pub mod RoundTrip
 pub mod Loop
-pub mod ReaderTypes
+pub mod Types
 pub mod Writes
 pub mod Sizes
 pub mod Whole

@@ -4,8 +4,7 @@ use mathlib.Core.Bool.{true, false}
 use mathlib.Core.List.{List, [], ◌∷◌, ◌++◌, reverse}
 use Prim.Native.Nat.{ℕ}
 use native.Mathlib.Omega.{arith}
-use Rattle.tsar.specs.declared.MessageLength.TheVariants as len
-use Rattle.tsar.specs.declared.Services.TheVariants as optional
+use Rattle.std.specs.Prelude.{is_some, Some, None}
 use Rattle.tsar.specs.declared.MessageCrc.TheVariants as crc
 use Rattle.tsar.specs.declared.decode.Params.{Params}
 use Rattle.tsar.specs.declared.SegmentType.{SegmentType}
@@ -14,7 +13,7 @@ use Rattle.tsar.specs.declared.SegmentKind.{SegmentKind}
 use Rattle.tsar.specs.declared.SegmentKind.TheVariants as kind'
 use Rattle.tsar.specs.Layout.{Param, stated, services, crc16, crc24, parameters, type_of}
 use Rattle.tsar.specs.Octets.{ParamsFit}
-use Rattle.tsar.specs.Reading.{length_read, services_read, crc_read, no_params, kind_of}
+use Rattle.tsar.specs.Reading.{no_params, kind_of}
 use Rattle.tsar.specs.Spells.{AnyOrder, listed, turned, LengthFits, CrcFits, KindFits}
 use Rattle.tsar.proofs.Steps.{add, Fresh}
 use Rattle.tsar.proofs.Chain.{Takes}
@@ -26,9 +25,9 @@ no_repeat e = let z : ◌≡◌ {A = ℕ} 0 1 = cc in omega arith
 
 -- every place of the type is taken
 abbrev Full : SegmentType → Params → Type 0
-Full type.Begin p = (length_read p.message_length ≡ true) × (services_read p.services ≡ true)
-Full type.Continue p = length_read p.message_length ≡ true
-Full type.End p = (length_read p.message_length ≡ true) × (crc_read p.crc ≡ true)
+Full type.Begin p = (is_some p.message_length ≡ true) × (is_some p.services ≡ true)
+Full type.Continue p = is_some p.message_length ≡ true
+Full type.End p = (is_some p.message_length ≡ true) × (is_some p.crc ≡ true)
 
 full_fresh : (t : SegmentType) (p : Params) (x : Param) → Full t p → Fresh t p x → ⊥
 full_fresh type.Begin p (stated n) h f = no_repeat (sym h.0 ∙ f)
@@ -110,9 +109,9 @@ takes_fit t (crc24 v ∷ ps) p q h w a b = takes_fit t ps _ q h.1 w.1 a w.0
 
 -- the parameters of a kind
 abbrev pub params_in : SegmentKind → Params
-params_in (kind'.Begin n s) = record { message_length = n; services = s; crc = crc.Absent }
-params_in (kind'.Continue n) = record { message_length = n; services = optional.Absent; crc = crc.Absent }
-params_in (kind'.End n c) = record { message_length = n; services = optional.Absent; crc = c }
+params_in (kind'.Begin n s) = record { message_length = n; services = s; crc = None }
+params_in (kind'.Continue n) = record { message_length = n; services = None; crc = None }
+params_in (kind'.End n c) = record { message_length = n; services = None; crc = c }
 
 -- a kind is what its parameters make of its type
 pub kind_in : (k : SegmentKind) → kind_of (type_of k) (params_in k) ≡ k
@@ -124,18 +123,18 @@ abbrev Chain : SegmentKind → List Param → Type 0
 Chain k ps = Takes (type_of k) no_params ps (params_in k) × ParamsFit ps
 
 chain : (k : SegmentKind) (sequence : ℕ) → KindFits sequence k → Chain k (parameters k) × Chain k (reverse (parameters k))
-chain (kind'.Begin len.Unstated optional.Absent) q h = ((refl, tt), (refl, tt))
-chain (kind'.Begin len.Unstated (optional.SpelledOut s)) q h = (((refl, refl), (tt, tt)), ((refl, refl), (tt, tt)))
-chain (kind'.Begin (len.Stated n) optional.Absent) q h = (((refl, refl), (h.1, tt)), ((refl, refl), (h.1, tt)))
-chain (kind'.Begin (len.Stated n) (optional.SpelledOut s)) q h = (((refl, (refl, refl)), (h.1, (tt, tt))), ((refl, (refl, refl)), (tt, (h.1, tt))))
-chain (kind'.Continue len.Unstated) q h = ((refl, tt), (refl, tt))
-chain (kind'.Continue (len.Stated n)) q h = (((refl, refl), (h, tt)), ((refl, refl), (h, tt)))
-chain (kind'.End len.Unstated crc.Absent) q h = ((refl, tt), (refl, tt))
-chain (kind'.End len.Unstated (crc.Crc16 v)) q h = (((refl, refl), (h.1, tt)), ((refl, refl), (h.1, tt)))
-chain (kind'.End len.Unstated (crc.Crc24 v)) q h = (((refl, refl), (h.1, tt)), ((refl, refl), (h.1, tt)))
-chain (kind'.End (len.Stated n) crc.Absent) q h = (((refl, refl), (h.0, tt)), ((refl, refl), (h.0, tt)))
-chain (kind'.End (len.Stated n) (crc.Crc16 v)) q h = (((refl, (refl, refl)), (h.0, (h.1, tt))), ((refl, (refl, refl)), (h.1, (h.0, tt))))
-chain (kind'.End (len.Stated n) (crc.Crc24 v)) q h = (((refl, (refl, refl)), (h.0, (h.1, tt))), ((refl, (refl, refl)), (h.1, (h.0, tt))))
+chain (kind'.Begin None None) q h = ((refl, tt), (refl, tt))
+chain (kind'.Begin None (Some s)) q h = (((refl, refl), (tt, tt)), ((refl, refl), (tt, tt)))
+chain (kind'.Begin (Some n) None) q h = (((refl, refl), (h.1, tt)), ((refl, refl), (h.1, tt)))
+chain (kind'.Begin (Some n) (Some s)) q h = (((refl, (refl, refl)), (h.1, (tt, tt))), ((refl, (refl, refl)), (tt, (h.1, tt))))
+chain (kind'.Continue None) q h = ((refl, tt), (refl, tt))
+chain (kind'.Continue (Some n)) q h = (((refl, refl), (h, tt)), ((refl, refl), (h, tt)))
+chain (kind'.End None None) q h = ((refl, tt), (refl, tt))
+chain (kind'.End None (Some (crc.Crc16 v))) q h = (((refl, refl), (h.1, tt)), ((refl, refl), (h.1, tt)))
+chain (kind'.End None (Some (crc.Crc24 v))) q h = (((refl, refl), (h.1, tt)), ((refl, refl), (h.1, tt)))
+chain (kind'.End (Some n) None) q h = (((refl, refl), (h.0, tt)), ((refl, refl), (h.0, tt)))
+chain (kind'.End (Some n) (Some (crc.Crc16 v))) q h = (((refl, (refl, refl)), (h.0, (h.1, tt))), ((refl, (refl, refl)), (h.1, (h.0, tt))))
+chain (kind'.End (Some n) (Some (crc.Crc24 v))) q h = (((refl, (refl, refl)), (h.0, (h.1, tt))), ((refl, (refl, refl)), (h.1, (h.0, tt))))
 
 -- the segment's parameters in any order are a chain, and they fit
 pub chained : (k : SegmentKind) (sequence : ℕ) (ps : List Param) → KindFits sequence k → AnyOrder ps (parameters k) → Takes (type_of k) no_params ps (params_in k) × ParamsFit ps

@@ -2,13 +2,11 @@
 use mathlib.Core.Path.{◌≡◌}
 use mathlib.Core.Bool.{false}
 use mathlib.Core.List.{List}
-use mathlib.Core.Option.{none}
+use Rattle.std.specs.Prelude.{Option, Some, None}
 use Prim.Native.Nat.{ℕ, ◌≤◌}
 use native.Mathlib.Omega.{arith}
 use borrow.Author.Tests.{ltb-false, eqb-true, not-false}
 use lib.ListN.{length}
-use Rattle.tsar.specs.declared.MessageLength.{MessageLength}
-use Rattle.tsar.specs.declared.MessageLength.TheVariants as len
 use Rattle.tsar.specs.declared.MessageCrc.{MessageCrc}
 use Rattle.tsar.specs.declared.MessageCrc.TheVariants as crc
 use Rattle.tsar.specs.declared.SegmentKind.{SegmentKind}
@@ -20,14 +18,14 @@ use Rattle.tsar.specs.Reading.{begin_test}
 use Rattle.tsar.specs.Spells.{LengthFits, CrcFits, KindFits, Fits}
 use Rattle.tsar.specs.Writing.{length_in, crc_in, too_long, crc_too_large, codec_rows, Writable, CrcTyped, Typed}
 
-length_of : (n : MessageLength) → too_long n ≡ false → LengthFits n
-length_of len.Unstated h = tt
-length_of (len.Stated n) h = ltb-false 4095 n h
+length_of : (n : Option ℕ) → too_long n ≡ false → LengthFits n
+length_of None h = tt
+length_of (Some n) h = ltb-false 4095 n h
 
-crc_of : (c : MessageCrc) → CrcTyped c → crc_too_large c ≡ false → CrcFits c
-crc_of crc.Absent y h = tt
-crc_of (crc.Crc16 v) y h = y
-crc_of (crc.Crc24 v) y h = omega (arith, ltb-false 16777215 v h)
+crc_of : (c : Option MessageCrc) → CrcTyped c → crc_too_large c ≡ false → CrcFits c
+crc_of None y h = tt
+crc_of (Some (crc.Crc16 v)) y h = y
+crc_of (Some (crc.Crc24 v)) y h = omega (arith, ltb-false 16777215 v h)
 
 kind_of_lem : (k : SegmentKind) (q : ℕ) → CrcTyped (crc_in k) → begin_test (type_of k) q ≡ false → too_long (length_in k) ≡ false → crc_too_large (crc_in k) ≡ false → KindFits q k
 kind_of_lem (kind'.Begin n s) q y b l c = (eqb-true q 0 (not-false _ b), length_of n l)
@@ -35,7 +33,7 @@ kind_of_lem (kind'.Continue n) q y b l c = length_of n l
 kind_of_lem (kind'.End n x) q y b l c = (length_of n l, crc_of x y c)
 
 -- where no test holds the version is served and the segment can be written
-pub passes_writable : (v : ℕ) (s : Segment) (n : ℕ) → refusal (codec_rows v s n) ≡ none → (1 ≤ v) × Writable s n
+pub passes_writable : (v : ℕ) (s : Segment) (n : ℕ) → refusal (codec_rows v s n) ≡ None → (1 ≤ v) × Writable s n
 passes_writable v s n e =
     let t = refusal_none (codec_rows v s n) e in (
       ltb-false v 1 (t 0),
@@ -60,7 +58,7 @@ writable_fits s l y w =
     }
 
 -- what passes the tests under a version fits the layout, and the version is served
-pub passes_fits : (v : ℕ) (s : Segment) (l : List ℕ) → Typed (whole s l) → refusal (codec_rows v s (length l)) ≡ none → (1 ≤ v) × Fits (whole s l)
+pub passes_fits : (v : ℕ) (s : Segment) (l : List ℕ) → Typed (whole s l) → refusal (codec_rows v s (length l)) ≡ None → (1 ≤ v) × Fits (whole s l)
 passes_fits v s l y e =
     let p = passes_writable v s (length l) e in
     (p.0, writable_fits s l y p.1)

@@ -2,7 +2,7 @@
 use mathlib.Core.Path.{◌≡◌, refl, sym, ap, ap₂, ◌∙◌}
 use mathlib.Core.Bool.{Bool}
 use mathlib.Core.List.{List, [], ◌∷◌, append-nil}
-use mathlib.Core.Option.{Option, none, some}
+use Rattle.std.specs.Prelude.{Option, Some, None}
 use Prim.Native.Nat.{ℕ}
 use native.Mathlib.Omega.{arith}
 use borrow.Author.Tests.{ltb-false}
@@ -25,13 +25,13 @@ written_spells s f =
     record { order = parameters s.kind; rest = []; any_order = listed refl; fits = f; spelled = sym (append-nil (written s)); stops = tt; counted = refl }
 
 -- where octets were written no test held, and they were all of them
-accepted : (o : Option Refusal) (l out : List ℕ) (n : ℕ) → (after_tests o l out).answer ≡ wrote n → (o ≡ none) × (n ≡ length l)
-accepted (some r) l out n e = let z : ◌≡◌ {A = ℕ} 0 1 = cc in absurd (omega arith)
-accepted none l out n e = (refl, cc)
+accepted : (o : Option Refusal) (l out : List ℕ) (n : ℕ) → (after_tests o l out).answer ≡ wrote n → (o ≡ None) × (n ≡ length l)
+accepted (Some r) l out n e = let z : ◌≡◌ {A = ℕ} 0 1 = cc in absurd (omega arith)
+accepted None l out n e = (refl, cc)
 
-both_none : (a b : Option Refusal) → or_else a b ≡ none → (a ≡ none) × (b ≡ none)
-both_none none b e = (refl, e)
-both_none (some r) b e = let z : ◌≡◌ {A = ℕ} 0 1 = cc in absurd (omega arith)
+both_none : (a b : Option Refusal) → or_else a b ≡ None → (a ≡ None) × (b ≡ None)
+both_none None b e = (refl, e)
+both_none (Some r) b e = let z : ◌≡◌ {A = ℕ} 0 1 = cc in absurd (omega arith)
 
 -- reading what was written gives the same segment, with nothing unparsed
 pub round_trip : (v : ℕ) (s : Segment) (l out : List ℕ) (n : ℕ) → Typed (whole s l) → (encode_of v s l out).answer ≡ wrote n

@@ -2,7 +2,7 @@
 use mathlib.Core.Path.{◌≡◌, refl, sym, ap, ◌∙◌, subst}
 use mathlib.Core.Bool.{Bool, true, false, ◌&&◌, true≢false}
 use mathlib.Core.Logic.{◌↔◌}
-use mathlib.Core.Option.{some}
+use Rattle.std.specs.Prelude.{Option, Some, None, ℕ}
 use borrow.Author.Tests.{eqb-true, eq-eqb}
 use lib.Dec.{eqb}
 use Rattle.tsar.specs.Kinds.{same_lengths, same_optional, same_services, same_crc, same_kind}
@@ -15,10 +15,6 @@ use Rattle.tsar.specs.declared.AcknowledgmentWindow.TheVariants as window
 use Rattle.tsar.specs.declared.CrcStatus.{CrcStatus}
 use Rattle.tsar.specs.declared.CrcStatus.TheVariants as status
 use Rattle.tsar.specs.declared.OptionalServices.{OptionalServices}
-use Rattle.tsar.specs.declared.MessageLength.{MessageLength}
-use Rattle.tsar.specs.declared.MessageLength.TheVariants as len
-use Rattle.tsar.specs.declared.Services.{Services}
-use Rattle.tsar.specs.declared.Services.TheVariants as optional
 use Rattle.tsar.specs.declared.MessageCrc.{MessageCrc}
 use Rattle.tsar.specs.declared.MessageCrc.TheVariants as crc
 use Rattle.tsar.specs.declared.SegmentKind.{SegmentKind}
@@ -31,7 +27,7 @@ both false b e = absurd (true≢false (sym e))
 
 -- ---- a number names one case
 
-window_back : (w : AcknowledgmentWindow) → window_of (window_number w) ≡ some w
+window_back : (w : AcknowledgmentWindow) → window_of (window_number w) ≡ Some w
 unfolding window_of
 window_back window.Prohibited = refl
 window_back window.Every4 = refl
@@ -40,12 +36,12 @@ window_back window.Every16 = refl
 window_back window.Last = refl
 window_back window.Exceptions = refl
 
-compression_back : (c : Compression) → compression_of (compression_number c) ≡ some c
+compression_back : (c : Compression) → compression_of (compression_number c) ≡ Some c
 unfolding compression_of
 compression_back compression.None = refl
 compression_back compression.V42Bis = refl
 
-status_back : (s : CrcStatus) → status_of (status_number s) ≡ some s
+status_back : (s : CrcStatus) → status_of (status_number s) ≡ Some s
 unfolding status_of
 status_back status.None = refl
 status_back status.Crc16 = refl
@@ -62,11 +58,11 @@ same_status v w e = let p = sym (status_back v) ∙ ap status_of (eqb-true (stat
 
 -- ---- what is the same is one
 
-same_lengths_lem : (a b : MessageLength) → same_lengths a b ≡ true → a ≡ b
-same_lengths_lem len.Unstated len.Unstated e = refl
-same_lengths_lem len.Unstated (len.Stated n) e = absurd (true≢false (sym e))
-same_lengths_lem (len.Stated m) len.Unstated e = absurd (true≢false (sym e))
-same_lengths_lem (len.Stated m) (len.Stated n) e = ap len.Stated (eqb-true m n e)
+same_lengths_lem : (a b : Option ℕ) → same_lengths a b ≡ true → a ≡ b
+same_lengths_lem None None e = refl
+same_lengths_lem None (Some n) e = absurd (true≢false (sym e))
+same_lengths_lem (Some m) None e = absurd (true≢false (sym e))
+same_lengths_lem (Some m) (Some n) e = ap Some (eqb-true m n e)
 
 same_optional_lem : (a b : OptionalServices) → same_optional a b ≡ true → a ≡ b
 same_optional_lem a b e =
@@ -80,22 +76,22 @@ same_optional_lem a b e =
     let p3 = same_status a.crc_status b.crc_status x.1 in
     λ i. record { compression = p1 i; acknowledgment_window = p2 i; crc_status = p3 i }
 
-same_services_lem : (a b : Services) → same_services a b ≡ true → a ≡ b
-same_services_lem optional.Absent optional.Absent e = refl
-same_services_lem optional.Absent (optional.SpelledOut t) e = absurd (true≢false (sym e))
-same_services_lem (optional.SpelledOut s) optional.Absent e = absurd (true≢false (sym e))
-same_services_lem (optional.SpelledOut s) (optional.SpelledOut t) e = ap optional.SpelledOut (same_optional_lem s t e)
+same_services_lem : (a b : Option OptionalServices) → same_services a b ≡ true → a ≡ b
+same_services_lem None None e = refl
+same_services_lem None (Some t) e = absurd (true≢false (sym e))
+same_services_lem (Some s) None e = absurd (true≢false (sym e))
+same_services_lem (Some s) (Some t) e = ap Some (same_optional_lem s t e)
 
-same_crc_lem : (a b : MessageCrc) → same_crc a b ≡ true → a ≡ b
-same_crc_lem crc.Absent crc.Absent e = refl
-same_crc_lem crc.Absent (crc.Crc16 w) e = absurd (true≢false (sym e))
-same_crc_lem crc.Absent (crc.Crc24 w) e = absurd (true≢false (sym e))
-same_crc_lem (crc.Crc16 v) crc.Absent e = absurd (true≢false (sym e))
-same_crc_lem (crc.Crc16 v) (crc.Crc16 w) e = ap crc.Crc16 (eqb-true v w e)
-same_crc_lem (crc.Crc16 v) (crc.Crc24 w) e = absurd (true≢false (sym e))
-same_crc_lem (crc.Crc24 v) crc.Absent e = absurd (true≢false (sym e))
-same_crc_lem (crc.Crc24 v) (crc.Crc16 w) e = absurd (true≢false (sym e))
-same_crc_lem (crc.Crc24 v) (crc.Crc24 w) e = ap crc.Crc24 (eqb-true v w e)
+same_crc_lem : (a b : Option MessageCrc) → same_crc a b ≡ true → a ≡ b
+same_crc_lem None None e = refl
+same_crc_lem None (Some (crc.Crc16 w)) e = absurd (true≢false (sym e))
+same_crc_lem None (Some (crc.Crc24 w)) e = absurd (true≢false (sym e))
+same_crc_lem (Some (crc.Crc16 v)) None e = absurd (true≢false (sym e))
+same_crc_lem (Some (crc.Crc16 v)) (Some (crc.Crc16 w)) e = ap (λ x. Some (crc.Crc16 x)) (eqb-true v w e)
+same_crc_lem (Some (crc.Crc16 v)) (Some (crc.Crc24 w)) e = absurd (true≢false (sym e))
+same_crc_lem (Some (crc.Crc24 v)) None e = absurd (true≢false (sym e))
+same_crc_lem (Some (crc.Crc24 v)) (Some (crc.Crc16 w)) e = absurd (true≢false (sym e))
+same_crc_lem (Some (crc.Crc24 v)) (Some (crc.Crc24 w)) e = ap (λ x. Some (crc.Crc24 x)) (eqb-true v w e)
 
 same_one : (a b : SegmentKind) → same_kind a b ≡ true → a ≡ b
 same_one (kind'.Begin m s) (kind'.Begin n t) e =
@@ -121,19 +117,19 @@ same_one (kind'.End m b) (kind'.End n c) e =
 pub window_same : (w : AcknowledgmentWindow) → eqb (window_number w) (window_number w) ≡ true
 window_same w = eq-eqb (window_number w) (window_number w) refl
 
-lengths_same : (a : MessageLength) → same_lengths a a ≡ true
-lengths_same len.Unstated = refl
-lengths_same (len.Stated n) = eq-eqb n n refl
+lengths_same : (a : Option ℕ) → same_lengths a a ≡ true
+lengths_same None = refl
+lengths_same (Some n) = eq-eqb n n refl
 
-services_same : (a : Services) → same_services a a ≡ true
-services_same optional.Absent = refl
-services_same (optional.SpelledOut s) =
+services_same : (a : Option OptionalServices) → same_services a a ≡ true
+services_same None = refl
+services_same (Some s) =
     simp (eq-eqb (compression_number s.compression) (compression_number s.compression) refl, window_same s.acknowledgment_window, eq-eqb (status_number s.crc_status) (status_number s.crc_status) refl)
 
-crc_same : (a : MessageCrc) → same_crc a a ≡ true
-crc_same crc.Absent = refl
-crc_same (crc.Crc16 v) = eq-eqb v v refl
-crc_same (crc.Crc24 v) = eq-eqb v v refl
+crc_same : (a : Option MessageCrc) → same_crc a a ≡ true
+crc_same None = refl
+crc_same (Some (crc.Crc16 v)) = eq-eqb v v refl
+crc_same (Some (crc.Crc24 v)) = eq-eqb v v refl
 
 pub kind_same : (a : SegmentKind) → same_kind a a ≡ true
 kind_same (kind'.Begin n s) = simp (lengths_same n, services_same s)

@@ -3,10 +3,8 @@ use mathlib.Core.Path.{◌≡◌, refl, sym, ap, ◌∙◌}
 use Prim.Native.Nat.{◌+◌, ◌≤◌}
 use native.Mathlib.Omega.{arith}
 use lib.ListN.{length}
-use Rattle.tsar.specs.declared.MessageLength.{MessageLength}
-use Rattle.tsar.specs.declared.MessageLength.TheVariants as len
-use Rattle.tsar.specs.declared.Services.{Services}
-use Rattle.tsar.specs.declared.Services.TheVariants as optional
+use Rattle.std.specs.Prelude.{Option, Some, None, ℕ}
+use Rattle.tsar.specs.declared.OptionalServices.{OptionalServices}
 use Rattle.tsar.specs.declared.MessageCrc.{MessageCrc}
 use Rattle.tsar.specs.declared.MessageCrc.TheVariants as crc
 use Rattle.tsar.specs.declared.SegmentKind.{SegmentKind}
@@ -14,22 +12,22 @@ use Rattle.tsar.specs.declared.SegmentKind.TheVariants as kind'
 use Rattle.tsar.specs.Layout.{WholeSegment, length_param, services_param, crc_param, written}
 use Rattle.tsar.specs.Octets.{params_octets}
 use Rattle.tsar.specs.Spells.{Fits}
-use Rattle.tsar.specs.Writing.{length_in, rest_params, length_octets, services_octets, crc_octets, header_octets}
+use Rattle.tsar.specs.Writing.{length_in, rest_params, word_octets, crc_octets, header_octets}
 use Rattle.tsar.proofs.Writes.{written_runs, runs_size}
 
 -- the octets of each parameter are as many as are counted
-length_counted : (n : MessageLength) → length (params_octets (length_param n)) ≡ length_octets n
-length_counted len.Unstated = refl
-length_counted (len.Stated n) = refl
+length_counted : (n : Option ℕ) → length (params_octets (length_param n)) ≡ word_octets n
+length_counted None = refl
+length_counted (Some n) = refl
 
-services_counted : (s : Services) → length (params_octets (services_param s)) ≡ services_octets s
-services_counted optional.Absent = refl
-services_counted (optional.SpelledOut s) = refl
+services_counted : (s : Option OptionalServices) → length (params_octets (services_param s)) ≡ word_octets s
+services_counted None = refl
+services_counted (Some s) = refl
 
-crc_counted : (c : MessageCrc) → length (params_octets (crc_param c)) ≡ crc_octets c
-crc_counted crc.Absent = refl
-crc_counted (crc.Crc16 v) = refl
-crc_counted (crc.Crc24 v) = refl
+crc_counted : (c : Option MessageCrc) → length (params_octets (crc_param c)) ≡ crc_octets c
+crc_counted None = refl
+crc_counted (Some (crc.Crc16 v)) = refl
+crc_counted (Some (crc.Crc24 v)) = refl
 
 -- the header octets are three, those of the length and those of the parameters behind it
 pub header_counted : (k : SegmentKind) → header_octets k ≡ 3 + length (params_octets (length_param (length_in k))) + length (params_octets (rest_params k))
@@ -39,18 +37,18 @@ header_counted (kind'.Continue n) = omega (arith, length_counted n)
 header_counted (kind'.End n c) = sym (rw (length_counted, crc_counted))
 
 -- a stated length has at most two octets
-pub length_octets_le : (n : MessageLength) → length (params_octets (length_param n)) ≤ 2
-length_octets_le len.Unstated = omega arith
-length_octets_le (len.Stated n) = omega arith
+pub length_octets_le : (n : Option ℕ) → length (params_octets (length_param n)) ≤ 2
+length_octets_le None = omega arith
+length_octets_le (Some n) = omega arith
 
 -- the parameters behind it at most four
 pub rest_octets_le : (k : SegmentKind) → length (params_octets (rest_params k)) ≤ 4
-rest_octets_le (kind'.Begin n optional.Absent) = omega arith
-rest_octets_le (kind'.Begin n (optional.SpelledOut s)) = omega arith
+rest_octets_le (kind'.Begin n None) = omega arith
+rest_octets_le (kind'.Begin n (Some s)) = omega arith
 rest_octets_le (kind'.Continue n) = omega arith
-rest_octets_le (kind'.End n crc.Absent) = omega arith
-rest_octets_le (kind'.End n (crc.Crc16 v)) = omega arith
-rest_octets_le (kind'.End n (crc.Crc24 v)) = omega arith
+rest_octets_le (kind'.End n None) = omega arith
+rest_octets_le (kind'.End n (Some (crc.Crc16 v))) = omega arith
+rest_octets_le (kind'.End n (Some (crc.Crc24 v))) = omega arith
 
 -- a header has at least 3 octets
 pub header_least : (k : SegmentKind) → 3 ≤ header_octets k

@@ -19,16 +19,13 @@ use Rattle.tsar.specs.declared.CrcStatus.TheVariants as status
 use Rattle.tsar.specs.declared.OptionalServices.{OptionalServices}
 use Rattle.tsar.specs.declared.MessageCrc.TheVariants as crc
 use Rattle.tsar.specs.declared.decode.Params.{Params}
-use Rattle.tsar.specs.declared.decode.ServicesRead.{ServicesRead}
-use Rattle.tsar.specs.declared.decode.ServicesRead.TheVariants as read
-use Rattle.tsar.specs.declared.decode.Step.{Step}
-use Rattle.tsar.specs.declared.decode.Step.TheVariants.{Taken, Stop, Refused}
+use Rattle.std.specs.Prelude.{Option, Result, is_some, Some, None, Ok, Err}
+use Rattle.tsar.specs.declared.Error.{Error}
 use Rattle.tsar.specs.declared.SegmentType.{SegmentType}
 use Rattle.tsar.specs.declared.SegmentType.TheVariants as type
 use Rattle.tsar.specs.Layout.{bits_of, Param, stated, services, crc16, crc24, compression_number, window_number, status_number}
 use Rattle.tsar.specs.Octets.{pair_octets, triple_octets, quad_octets, services_field, param_octets, ParamFits}
-use Rattle.tsar.specs.Reading.{compression_of, window_of, status_of, joined, services_of, length_read, services_read, crc_read, with_length, with_services, with_crc, on_services, two, three, four, length_step, services_step, crc16_step, crc24_step, named, step_of}
-use mathlib.Core.Option.{Option, none, some}
+use Rattle.tsar.specs.Reading.{compression_of, window_of, status_of, joined, services_of, with_length, with_services, with_crc, on_services, two, three, four, length_step, services_step, crc16_step, crc24_step, named, step_of}
 use Rattle.tsar.specs.Spells.{Octets, Unnamed}
 use Rattle.tsar.proofs.Bits.{top_bits, same_name}
 use Rattle.tsar.proofs.Spelled.{compression_le, window_le, status_le}
@@ -39,21 +36,21 @@ use Rattle.tsar.proofs.Spelled.{compression_le, window_le, status_le}
 abbrev pub add : Param → Params → Params
 add (stated n) p = with_length p n
 add (services s) p = with_services p s
-add (crc16 v) p = with_crc p (crc.Crc16 v)
-add (crc24 v) p = with_crc p (crc.Crc24 v)
+add (crc16 v) p = with_crc p (Some (crc.Crc16 v))
+add (crc24 v) p = with_crc p (Some (crc.Crc24 v))
 
 -- the type has this parameter, and none was read before
 abbrev pub Fresh : SegmentType → Params → Param → Type 0
-Fresh t p (stated n) = length_read p.message_length ≡ false
-Fresh type.Begin p (services s) = services_read p.services ≡ false
+Fresh t p (stated n) = is_some p.message_length ≡ false
+Fresh type.Begin p (services s) = is_some p.services ≡ false
 Fresh type.Continue p (services s) = ⊥
 Fresh type.End p (services s) = ⊥
 Fresh type.Begin p (crc16 v) = ⊥
 Fresh type.Continue p (crc16 v) = ⊥
-Fresh type.End p (crc16 v) = crc_read p.crc ≡ false
+Fresh type.End p (crc16 v) = is_some p.crc ≡ false
 Fresh type.Begin p (crc24 v) = ⊥
 Fresh type.Continue p (crc24 v) = ⊥
-Fresh type.End p (crc24 v) = crc_read p.crc ≡ false
+Fresh type.End p (crc24 v) = is_some p.crc ≡ false
 
 -- ---- octets are the digits of their number
 
@@ -105,10 +102,10 @@ pub record Stands (t : SegmentType) (p : Params) (l : List ℕ) (q : Params) (n 
   pub front : l ≡ param_octets what ++ drop n l
 
 -- what a step says is so
-abbrev pub Sound : SegmentType → Params → List ℕ → Step → Type 0
-Sound t p l (Taken q n) = Stands t p l q n
-Sound t p l Stop = Unnamed t l
-Sound t p l (Refused n) = Unit {0}
+abbrev pub Sound : SegmentType → Params → List ℕ → Result (Option (Params × ℕ)) Error → Type 0
+Sound t p l (Ok (Some (q, n))) = Stands t p l q n
+Sound t p l (Ok None) = Unnamed t l
+Sound t p l (Err n) = Unit {0}
 
 crc16_value : (f : ℕ) → f / 1048576 ≡ 2 → f % 16 ≡ 0 → f ≡ 2097152 + f / 16 % 65536 * 16
 crc16_value f e z =
@@ -122,8 +119,8 @@ crc24_value f e z =
 
 -- a case that a number names has that number
 abbrev Numbers : {A : Type 0} → (A → ℕ) → ℕ → Option A → Type 0
-Numbers f n (some c) = f c ≡ n
-Numbers f n none = Unit {0}
+Numbers f n (Some c) = f c ≡ n
+Numbers f n None = Unit {0}
 
 compression_numbers : (n : ℕ) → Numbers compression_number n (compression_of n)
 unfolding compression_of
@@ -147,17 +144,17 @@ status_numbers n =
     let P = Numbers status_number n in
     either P (eqb n 0) _ _ (λ e. sym (eqb-true n 0 e)) (λ _. either P (eqb n 1) _ _ (λ e. sym (eqb-true n 1 e)) (λ _. either P (eqb n 2) _ _ (λ e. sym (eqb-true n 2 e)) (λ _. tt)))
 
-abbrev Packs : ℕ → ServicesRead → Type 0
-Packs n (read.Services x) = services_field x ≡ n
-Packs n read.Reserved = Unit {0}
+abbrev Packs : ℕ → Result OptionalServices Error → Type 0
+Packs n (Ok x) = services_field x ≡ n
+Packs n (Err e) = Unit {0}
 
 joined_packs : (n : ℕ) (c : Option Compression) (w : Option AcknowledgmentWindow) (k : Option CrcStatus)
     → Numbers compression_number (n / 512 % 8) c → Numbers window_number (n / 8 % 8) w → Numbers status_number (n / 2 % 4) k
     → n / 4096 ≡ 2 → n % 2 ≡ 0 → n / 64 % 8 ≡ 0 → Packs n (joined c w k)
-joined_packs n none w k hc hw hk e r z = tt
-joined_packs n (some c) none k hc hw hk e r z = tt
-joined_packs n (some c) (some w) none hc hw hk e r z = tt
-joined_packs n (some c) (some w) (some k) hc hw hk e r z =
+joined_packs n None w k hc hw hk e r z = tt
+joined_packs n (Some c) None k hc hw hk e r z = tt
+joined_packs n (Some c) (Some w) None hc hw hk e r z = tt
+joined_packs n (Some c) (Some w) (Some k) hc hw hk e r z =
     let a : n / 512 / 8 ≡ 2 = div-div-eq-div-mul n 512 8 ∙ e in
     let b : n / 64 / 8 ≡ n / 512 = div-div-eq-div-mul n 64 8 in
     let d : n / 8 / 8 ≡ n / 64 = div-div-eq-div-mul n 8 8 in
@@ -174,7 +171,7 @@ services_pack n e =
 module _ (t : SegmentType) (p : Params) (l : List ℕ) (o : Octets l) where
   sound_length : get_or l 0 0 / 16 ≡ 1 → Sound t p l (length_step p l)
   sound_length e =
-      either (Sound t p l) (length_read p.message_length) _ _ (λ _. tt)
+      either (Sound t p l) (is_some p.message_length) _ _ (λ _. tt)
       (λ f. either (Sound t p l) (ltb (length l) 2) _ _ (λ _. tt)
       (λ g.
       let n = two l % 4096 in
@@ -188,9 +185,9 @@ module _ (t : SegmentType) (p : Params) (l : List ℕ) (o : Octets l) where
         front = digits2 l o (ltb-false (length l) 2 g) ∙ ap (λ (k : ℕ). pair_octets k ++ drop 2 l) v;
       }))
 
-  sound_services_at : (s : ServicesRead) → Packs (two l) s → services_read p.services ≡ false → 2 ≤ length l → Sound type.Begin p l (on_services p s)
-  sound_services_at read.Reserved h f g = tt
-  sound_services_at (read.Services x) h f g =
+  sound_services_at : (s : Result OptionalServices Error) → Packs (two l) s → is_some p.services ≡ false → 2 ≤ length l → Sound type.Begin p l (on_services p s)
+  sound_services_at (Err e) h f g = tt
+  sound_services_at (Ok x) h f g =
       record {
         what = services x;
         fresh = f;
@@ -202,13 +199,13 @@ module _ (t : SegmentType) (p : Params) (l : List ℕ) (o : Octets l) where
 
   sound_services : get_or l 0 0 / 16 ≡ 2 → Sound type.Begin p l (services_step p l)
   sound_services e =
-      either (Sound type.Begin p l) (services_read p.services) _ _ (λ _. tt)
+      either (Sound type.Begin p l) (is_some p.services) _ _ (λ _. tt)
       (λ f. either (Sound type.Begin p l) (ltb (length l) 2) _ _ (λ _. tt)
       (λ g. sound_services_at (services_of (two l)) (services_pack (two l) (omega (arith, o 0, o 1))) f (ltb-false (length l) 2 g)))
 
   sound_crc16 : get_or l 0 0 / 16 ≡ 2 → Sound type.End p l (crc16_step p l)
   sound_crc16 e =
-      either (Sound type.End p l) (crc_read p.crc) _ _ (λ _. tt)
+      either (Sound type.End p l) (is_some p.crc) _ _ (λ _. tt)
       (λ f. either (Sound type.End p l) (ltb (length l) 3) _ _ (λ _. tt)
       (λ g. either (Sound type.End p l) (not (eqb (three l % 16) 0)) _ _ (λ _. tt)
       (λ r.
@@ -226,7 +223,7 @@ module _ (t : SegmentType) (p : Params) (l : List ℕ) (o : Octets l) where
 
   sound_crc24 : get_or l 0 0 / 16 ≡ 3 → Sound type.End p l (crc24_step p l)
   sound_crc24 e =
-      either (Sound type.End p l) (crc_read p.crc) _ _ (λ _. tt)
+      either (Sound type.End p l) (is_some p.crc) _ _ (λ _. tt)
       (λ f. either (Sound type.End p l) (ltb (length l) 4) _ _ (λ _. tt)
       (λ g. either (Sound type.End p l) (not (eqb (four l % 16) 0)) _ _ (λ _. tt)
       (λ r.
@@ -270,12 +267,12 @@ sound t p (a ∷ r) o = either (Sound t p (a ∷ r)) (eqb (length (a ∷ r)) 0) 
 
 -- ---- what stands there is taken
 
-compression_back : (c : Compression) → compression_of (compression_number c) ≡ some c
+compression_back : (c : Compression) → compression_of (compression_number c) ≡ Some c
 unfolding compression_of
 compression_back compression.None = refl
 compression_back compression.V42Bis = refl
 
-window_back : (w : AcknowledgmentWindow) → window_of (window_number w) ≡ some w
+window_back : (w : AcknowledgmentWindow) → window_of (window_number w) ≡ Some w
 unfolding window_of
 window_back window.Prohibited = refl
 window_back window.Every4 = refl
@@ -284,7 +281,7 @@ window_back window.Every16 = refl
 window_back window.Last = refl
 window_back window.Exceptions = refl
 
-status_back : (s : CrcStatus) → status_of (status_number s) ≡ some s
+status_back : (s : CrcStatus) → status_of (status_number s) ≡ Some s
 unfolding status_of
 status_back status.None = refl
 status_back status.Crc16 = refl
@@ -293,7 +290,7 @@ status_back status.Crc24 = refl
 digit : (q m r : ℕ) → r < m → (q * m + r) % m ≡ r
 digit q m r h = digits_mod q h
 
-services_back : (s : OptionalServices) → services_of (services_field s) ≡ read.Services s
+services_back : (s : OptionalServices) → services_of (services_field s) ≡ Ok s
 unfolding services_of
 services_back s =
     let c = compression_le s.compression in
@@ -315,21 +312,21 @@ services_back s =
     simp (eq-eqb _ _ r, eq-eqb _ _ e, x, y, z, compression_back, window_back, status_back)
 
 module _ (p : Params) (r : List ℕ) where
-  length_taken : (n : ℕ) → n ≤ 4095 → length_read p.message_length ≡ false → length_step p (pair_octets (4096 + n) ++ r) ≡ Taken (with_length p n) 2
+  length_taken : (n : ℕ) → n ≤ 4095 → is_some p.message_length ≡ false → length_step p (pair_octets (4096 + n) ++ r) ≡ (Ok (Some ((with_length p n), 2)))
   length_taken n h e =
       let m = 4096 + n in
       let v : (m / 256 * 256 + m % 256) % 4096 ≡ n = omega arith in
       let z : ltb (length (m / 256 ∷ m % 256 ∷ r)) 2 ≡ false = le-ltb (length (m / 256 ∷ m % 256 ∷ r)) 2 (omega arith) in
       simp (e, z, v)
 
-  services_taken : (s : OptionalServices) → services_read p.services ≡ false → services_step p (pair_octets (services_field s) ++ r) ≡ Taken (with_services p s) 2
+  services_taken : (s : OptionalServices) → is_some p.services ≡ false → services_step p (pair_octets (services_field s) ++ r) ≡ (Ok (Some ((with_services p s), 2)))
   services_taken s e =
       let f = services_field s in
       let v : f / 256 * 256 + f % 256 ≡ f = omega arith in
       let z : ltb (length (f / 256 ∷ f % 256 ∷ r)) 2 ≡ false = le-ltb (length (f / 256 ∷ f % 256 ∷ r)) 2 (omega arith) in
       simp (e, z, v, services_back s)
 
-  crc16_taken : (v : ℕ) → v < 65536 → crc_read p.crc ≡ false → crc16_step p (triple_octets (2097152 + v * 16) ++ r) ≡ Taken (with_crc p (crc.Crc16 v)) 3
+  crc16_taken : (v : ℕ) → v < 65536 → is_some p.crc ≡ false → crc16_step p (triple_octets (2097152 + v * 16) ++ r) ≡ (Ok (Some ((with_crc p (Some (crc.Crc16 v))), 3)))
   crc16_taken v h e =
       let f = 2097152 + v * 16 in
       let w : f / 65536 * 65536 + f / 256 % 256 * 256 + f % 256 ≡ f = omega arith in
@@ -339,7 +336,7 @@ module _ (p : Params) (r : List ℕ) where
       let z : ltb (length (triple_octets f ++ r)) 3 ≡ false = le-ltb (length (triple_octets f ++ r)) 3 (omega arith) in
       simp (e, z, w, eq-eqb _ _ m, q)
 
-  crc24_taken : (v : ℕ) → v < 16777216 → crc_read p.crc ≡ false → crc24_step p (quad_octets (805306368 + v * 16) ++ r) ≡ Taken (with_crc p (crc.Crc24 v)) 4
+  crc24_taken : (v : ℕ) → v < 16777216 → is_some p.crc ≡ false → crc24_step p (quad_octets (805306368 + v * 16) ++ r) ≡ (Ok (Some ((with_crc p (Some (crc.Crc24 v))), 4)))
   crc24_taken v h e =
       let f = 805306368 + v * 16 in
       let w : f / 16777216 * 16777216 + f / 65536 % 256 * 65536 + f / 256 % 256 * 256 + f % 256 ≡ f = omega arith in
@@ -357,7 +354,7 @@ by_name t p a r m e =
     simp (y, e)
 
 -- a parameter that stands in front, in an empty place, is taken
-pub taken : (t : SegmentType) (p : Params) (x : Param) (r : List ℕ) → Fresh t p x → ParamFits x → step_of t p (param_octets x ++ r) ≡ Taken (add x p) (length (param_octets x))
+pub taken : (t : SegmentType) (p : Params) (x : Param) (r : List ℕ) → Fresh t p x → ParamFits x → step_of t p (param_octets x ++ r) ≡ (Ok (Some ((add x p), (length (param_octets x)))))
 taken type.Begin p (stated n) r f h = by_name type.Begin p _ _ 1 (omega arith) ∙ length_taken p r n h f
 taken type.Continue p (stated n) r f h = by_name type.Continue p _ _ 1 (omega arith) ∙ length_taken p r n h f
 taken type.End p (stated n) r f h = by_name type.End p _ _ 1 (omega arith) ∙ length_taken p r n h f
@@ -379,13 +376,13 @@ differs : (a n : ℕ) → (take 4 (bits_of 8 a) ≡ bits_of 4 n → ⊥) → eqb
 differs a n h = ne_eqb _ _ (λ e. h (top_bits a ∙ ap (bits_of 4) e))
 
 -- where no name of the type stands, the loop ends
-stops_named : (t : SegmentType) (p : Params) (a : ℕ) (r : List ℕ) → Unnamed t (a ∷ r) → named t (a / 16) p (a ∷ r) ≡ Stop
+stops_named : (t : SegmentType) (p : Params) (a : ℕ) (r : List ℕ) → Unnamed t (a ∷ r) → named t (a / 16) p (a ∷ r) ≡ (Ok None)
 stops_named type.Begin p a r h = simp (differs a 1 h.0, differs a 2 h.1.0)
 stops_named type.Continue p a r h = simp (differs a 1 h.0)
 stops_named type.End p a r h = simp (differs a 1 h.0, differs a 2 h.1.0, differs a 3 h.1.1.0)
 
 -- the same of any octets
-pub stopped : (t : SegmentType) (p : Params) (l : List ℕ) → Unnamed t l → step_of t p l ≡ Stop
+pub stopped : (t : SegmentType) (p : Params) (l : List ℕ) → Unnamed t l → step_of t p l ≡ (Ok None)
 unfolding step_of
 stopped t p [] h = refl
 stopped t p (a ∷ r) h = by_name t p a r (a / 16) refl ∙ stops_named t p a r h

@@ -16,10 +16,9 @@ use Rattle.tsar.specs.declared.SegmentType.{SegmentType}
 use Rattle.tsar.specs.declared.SegmentType.TheVariants as type
 use Rattle.tsar.specs.declared.SegmentHead.{SegmentHead}
 use Rattle.tsar.specs.declared.DecodedSegment.{DecodedSegment}
-use Rattle.tsar.specs.declared.decode.ParamsRead.{ParamsRead}
-use Rattle.tsar.specs.declared.decode.ParamsRead.TheVariants as done
-use Rattle.tsar.specs.declared.decode.DecodeAnswer.{DecodeAnswer}
-use Rattle.tsar.specs.declared.decode.DecodeAnswer.TheVariants as answered
+use Rattle.std.specs.Prelude.{Result, Ok, Err}
+use Rattle.tsar.specs.declared.Error.{Error}
+use Rattle.tsar.specs.declared.decode.Parsed.{Parsed}
 
 -- the data of a segment that was read from octets
 pub record DataOf (l : List ℕ) (s : WholeSegment) : Type 0 where
@@ -30,11 +29,11 @@ abbrev Good : List ℕ → Decoded → Type 0
 Good l (decoded s n) = DataOf l s
 Good l (refused r) = Unit {0}
 
-params_good : (t : SegmentType) (l : List ℕ) (p : ParamsRead) → 3 + get_or l 2 0 ≤ length l → Good l (with_params t l p)
-params_good t l (done.Read x) h =
+params_good : (t : SegmentType) (l : List ℕ) (p : Result Parsed Error) → 3 + get_or l 2 0 ≤ length l → Good l (with_params t l p)
+params_good t l (Ok x) h =
     let n : length (take (get_or l 2 0) (drop 3 l)) ≡ get_or l 2 0 = length-take-le (get_or l 2 0) (drop 3 l) (omega (arith, length-drop 3 l)) in
     record { there = omega (arith, n); behind = ap (λ (k : ℕ). take k (drop 3 l)) (sym n) }
-params_good t l (done.Refused e) h = tt
+params_good t l (Err e) h = tt
 
 as_good : (t : SegmentType) (l : List ℕ) → Good l (segment_as t l)
 unfolding segment_as
@@ -60,30 +59,30 @@ segment_good v l =
 pub data_read : (v : ℕ) (l : List ℕ) (s : WholeSegment) (n : ℕ) → segment_of v l ≡ decoded s n → DataOf l s
 data_read v l s n e = subst (Good l) e (segment_good v l)
 
-same_told : (l : List ℕ) (a : DecodeAnswer) (x : Decoded) → Good l x → told_by a ≡ told_of x → decoded_by l a ≡ x
-same_told l (answered.Decoded d) (decoded s n) g e =
+same_told : (l : List ℕ) (a : Result DecodedSegment Error) (x : Decoded) → Good l x → told_by a ≡ told_of x → decoded_by l a ≡ x
+same_told l (Ok d) (decoded s n) g e =
     let h : d.head ≡ head_of_whole s = cc in
     let u : d.unparsed_octets ≡ n = cc in
     ap₂ {C = Decoded} (λ (x : SegmentHead) (k : ℕ). decoded (whole x.segment (take x.segment_data_length (drop 3 l))) k) h u
     ∙ ap (λ (y : List ℕ). decoded (whole (head_of_whole s).segment y) n) (sym g.behind)
-same_told l (answered.Decoded d) (refused r) g e = let z : ◌≡◌ {A = ℕ} 0 1 = cc in absurd (omega arith)
-same_told l (answered.Refused x) (decoded s n) g e = let z : ◌≡◌ {A = ℕ} 0 1 = cc in absurd (omega arith)
-same_told l (answered.Refused x) (refused r) g e = let z : r ≡ number x = cc in ap refused (sym z)
+same_told l (Ok d) (refused r) g e = let z : ◌≡◌ {A = ℕ} 0 1 = cc in absurd (omega arith)
+same_told l (Err x) (decoded s n) g e = let z : ◌≡◌ {A = ℕ} 0 1 = cc in absurd (omega arith)
+same_told l (Err x) (refused r) g e = let z : r ≡ number x = cc in ap refused (sym z)
 
 -- with its data, the answer is what reading gives
-pub told_whole : (v : ℕ) (l : List ℕ) (a : DecodeAnswer) → told_by a ≡ told_of (segment_of v l) → decoded_by l a ≡ segment_of v l
+pub told_whole : (v : ℕ) (l : List ℕ) (a : Result DecodedSegment Error) → told_by a ≡ told_of (segment_of v l) → decoded_by l a ≡ segment_of v l
 told_whole v l a e = same_told l a (segment_of v l) (segment_good v l) e
 
-within : (l : List ℕ) (d : DecodedSegment) (x : Decoded) → Good l x → told_by (answered.Decoded d) ≡ told_of x → 3 + d.head.segment_data_length ≤ length l
+within : (l : List ℕ) (d : DecodedSegment) (x : Decoded) → Good l x → told_by (Ok d) ≡ told_of x → 3 + d.head.segment_data_length ≤ length l
 within l d (decoded s n) g e = let h : d.head ≡ head_of_whole s = cc in omega (arith, ap (λ (x : SegmentHead). x.segment_data_length) h, g.there)
 within l d (refused r) g e = let z : ◌≡◌ {A = ℕ} 0 1 = cc in absurd (omega arith)
 
 -- a decoded answer's data lie within the octets
-pub told_within : (v : ℕ) (l : List ℕ) (a : DecodeAnswer) (d : DecodedSegment) → told_by a ≡ told_of (segment_of v l) → a ≡ answered.Decoded d → 3 + d.head.segment_data_length ≤ length l
+pub told_within : (v : ℕ) (l : List ℕ) (a : Result DecodedSegment Error) (d : DecodedSegment) → told_by a ≡ told_of (segment_of v l) → a ≡ Ok d → 3 + d.head.segment_data_length ≤ length l
 told_within v l a d e p = within l d (segment_of v l) (segment_good v l) (ap told_by (sym p) ∙ e)
 
 -- P2's octets: an answer that says what reading gives says 2 data octets, so not 65,535
-pub length_told : (d : DecodedSegment) → told_by (answered.Decoded d) ≡ told_of (segment_of 1 (0x0b ∷ 1 ∷ 2 ∷ 0x41 ∷ 0x42 ∷ [])) → d.head.segment_data_length ≡ 2
+pub length_told : (d : DecodedSegment) → told_by (Ok d) ≡ told_of (segment_of 1 (0x0b ∷ 1 ∷ 2 ∷ 0x41 ∷ 0x42 ∷ [])) → d.head.segment_data_length ≡ 2
 unfolding segment_of segment_as run_params step_of
 length_told d e = ap length' e
   where

@@ -1,7 +1,7 @@
 -- A whole segment as the runs of octets that code writes, and what writing gives past its tests. Assumes nothing.
 use mathlib.Core.Path.{◌≡◌, refl, sym, ap, ◌∙◌}
 use mathlib.Core.List.{List, [], ◌∷◌, ◌++◌, append-nil, append_assoc}
-use mathlib.Core.Option.{none, some}
+use Rattle.std.specs.Prelude.{Some, None}
 use Prim.Native.Nat.{ℕ, ◌+◌, ◌*◌, ◌≤◌, ◌<◌}
 use native.Mathlib.Omega.{arith}
 use borrow.Author.Tests.{lt-ltb, le-ltb}
@@ -55,12 +55,12 @@ three_runs o d l s a e p q = rw (q, p) (sym (sets_append o 3 d (l ++ s) ∙ sets
 
 module _ (v : ℕ) (s : Segment) (l out : List ℕ) where
   -- a refusal of the codec's tests is the answer, and the output stays
-  pub refused_first : (n : Refusal) → refusal (codec_rows v s (length l)) ≡ some n → encode_of v s l out ≡ record { answer = refused n; output = out }
+  pub refused_first : (n : Refusal) → refusal (codec_rows v s (length l)) ≡ Some n → encode_of v s l out ≡ record { answer = refused n; output = out }
   unfolding encode_of
   refused_first n e = rw (refusal_append (codec_rows v s (length l)), e)
 
   -- past them only the room counts
-  pub passed_first : refusal (codec_rows v s (length l)) ≡ none → encode_of v s l out ≡ in_room (written (whole s l)) out
+  pub passed_first : refusal (codec_rows v s (length l)) ≡ None → encode_of v s l out ≡ in_room (written (whole s l)) out
   unfolding encode_of
   passed_first e = rw (refusal_append (codec_rows v s (length l)), e)
 

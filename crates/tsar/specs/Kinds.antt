@@ -1,5 +1,5 @@
 -- Questions about kinds, services and windows that planner, receiver and sender ask.
-use Rattle.std.specs.Prelude.{ℕ, Bool, true, false, not, ◌&&◌, eqb}
+use Rattle.std.specs.Prelude.{ℕ, Bool, true, false, not, ◌&&◌, eqb, Option, Some, None}
 use Rattle.tsar.specs.declared.Compression.{Compression}
 use Rattle.tsar.specs.declared.Compression.TheVariants as compression
 use Rattle.tsar.specs.declared.AcknowledgmentWindow.{AcknowledgmentWindow}
@@ -7,10 +7,6 @@ use Rattle.tsar.specs.declared.AcknowledgmentWindow.TheVariants as window
 use Rattle.tsar.specs.declared.CrcStatus.{CrcStatus}
 use Rattle.tsar.specs.declared.CrcStatus.TheVariants as status
 use Rattle.tsar.specs.declared.OptionalServices.{OptionalServices}
-use Rattle.tsar.specs.declared.MessageLength.{MessageLength}
-use Rattle.tsar.specs.declared.MessageLength.TheVariants as len
-use Rattle.tsar.specs.declared.Services.{Services}
-use Rattle.tsar.specs.declared.Services.TheVariants as optional
 use Rattle.tsar.specs.declared.MessageCrc.{MessageCrc}
 use Rattle.tsar.specs.declared.MessageCrc.TheVariants as crc
 use Rattle.tsar.specs.declared.SegmentKind.{SegmentKind}
@@ -33,9 +29,9 @@ is_end (kind'.Continue n) = false
 is_end (kind'.End n c) = true
 
 -- absent services mean no compression, Prohibited, no CRC
-abbrev pub services_or_default : Services → OptionalServices
-services_or_default optional.Absent = record { compression = compression.None; acknowledgment_window = window.Prohibited; crc_status = status.None }
-services_or_default (optional.SpelledOut s) = s
+abbrev pub services_or_default : Option OptionalServices → OptionalServices
+services_or_default None = record { compression = compression.None; acknowledgment_window = window.Prohibited; crc_status = status.None }
+services_or_default (Some s) = s
 
 abbrev pub compresses : Compression → Bool
 compresses compression.None = false
@@ -46,10 +42,10 @@ selects_crc status.None = false
 selects_crc status.Crc16 = true
 selects_crc status.Crc24 = true
 
-abbrev pub has_crc : MessageCrc → Bool
-has_crc crc.Absent = false
-has_crc (crc.Crc16 v) = true
-has_crc (crc.Crc24 v) = true
+abbrev pub has_crc : Option MessageCrc → Bool
+has_crc None = false
+has_crc (Some (crc.Crc16 v)) = true
+has_crc (Some (crc.Crc24 v)) = true
 
 abbrev pub prohibited : AcknowledgmentWindow → Bool
 prohibited window.Prohibited = true
@@ -68,16 +64,16 @@ is_exceptions window.Last = false
 is_exceptions window.Exceptions = true
 
 -- a stated length that is another than n
-abbrev pub states_other : MessageLength → ℕ → Bool
-states_other len.Unstated n = false
-states_other (len.Stated m) n = not (eqb m n)
+abbrev pub states_other : Option ℕ → ℕ → Bool
+states_other None n = false
+states_other (Some m) n = not (eqb m n)
 
 -- whether two kinds are the same, with their parameters: services absent and the same services spelled out differ
-abbrev pub same_lengths : MessageLength → MessageLength → Bool
-same_lengths len.Unstated len.Unstated = true
-same_lengths len.Unstated (len.Stated n) = false
-same_lengths (len.Stated m) len.Unstated = false
-same_lengths (len.Stated m) (len.Stated n) = eqb m n
+abbrev pub same_lengths : Option ℕ → Option ℕ → Bool
+same_lengths None None = true
+same_lengths None (Some n) = false
+same_lengths (Some m) None = false
+same_lengths (Some m) (Some n) = eqb m n
 
 abbrev pub same_optional : OptionalServices → OptionalServices → Bool
 same_optional s t =
@@ -85,22 +81,22 @@ same_optional s t =
     && eqb (window_number s.acknowledgment_window) (window_number t.acknowledgment_window)
     && eqb (status_number s.crc_status) (status_number t.crc_status)
 
-abbrev pub same_services : Services → Services → Bool
-same_services optional.Absent optional.Absent = true
-same_services optional.Absent (optional.SpelledOut t) = false
-same_services (optional.SpelledOut s) optional.Absent = false
-same_services (optional.SpelledOut s) (optional.SpelledOut t) = same_optional s t
+abbrev pub same_services : Option OptionalServices → Option OptionalServices → Bool
+same_services None None = true
+same_services None (Some t) = false
+same_services (Some s) None = false
+same_services (Some s) (Some t) = same_optional s t
 
-abbrev pub same_crc : MessageCrc → MessageCrc → Bool
-same_crc crc.Absent crc.Absent = true
-same_crc crc.Absent (crc.Crc16 w) = false
-same_crc crc.Absent (crc.Crc24 w) = false
-same_crc (crc.Crc16 v) crc.Absent = false
-same_crc (crc.Crc16 v) (crc.Crc16 w) = eqb v w
-same_crc (crc.Crc16 v) (crc.Crc24 w) = false
-same_crc (crc.Crc24 v) crc.Absent = false
-same_crc (crc.Crc24 v) (crc.Crc16 w) = false
-same_crc (crc.Crc24 v) (crc.Crc24 w) = eqb v w
+abbrev pub same_crc : Option MessageCrc → Option MessageCrc → Bool
+same_crc None None = true
+same_crc None (Some (crc.Crc16 w)) = false
+same_crc None (Some (crc.Crc24 w)) = false
+same_crc (Some (crc.Crc16 v)) None = false
+same_crc (Some (crc.Crc16 v)) (Some (crc.Crc16 w)) = eqb v w
+same_crc (Some (crc.Crc16 v)) (Some (crc.Crc24 w)) = false
+same_crc (Some (crc.Crc24 v)) None = false
+same_crc (Some (crc.Crc24 v)) (Some (crc.Crc16 w)) = false
+same_crc (Some (crc.Crc24 v)) (Some (crc.Crc24 w)) = eqb v w
 
 abbrev pub same_kind : SegmentKind → SegmentKind → Bool
 same_kind (kind'.Begin m s) (kind'.Begin n t) = same_lengths m n && same_services s t

@@ -1,5 +1,5 @@
 -- The layout of a segment, from document 01, 'Port order' 1: fields of bits, most significant bit first, and the octets that those bits are.
-use Rattle.std.specs.Prelude.{ℕ, zero, suc, ◌+◌, ◌*◌, ◌/◌, ◌%◌, List, [], ◌∷◌, ◌++◌, map, length}
+use Rattle.std.specs.Prelude.{ℕ, zero, suc, ◌+◌, ◌*◌, ◌/◌, ◌%◌, List, [], ◌∷◌, ◌++◌, map, length, Option, Some, None}
 use Rattle.tsar.specs.declared.Compression.{Compression}
 use Rattle.tsar.specs.declared.Compression.TheVariants as compression
 use Rattle.tsar.specs.declared.AcknowledgmentWindow.{AcknowledgmentWindow}
@@ -7,10 +7,6 @@ use Rattle.tsar.specs.declared.AcknowledgmentWindow.TheVariants as window
 use Rattle.tsar.specs.declared.CrcStatus.{CrcStatus}
 use Rattle.tsar.specs.declared.CrcStatus.TheVariants as status
 use Rattle.tsar.specs.declared.OptionalServices.{OptionalServices}
-use Rattle.tsar.specs.declared.MessageLength.{MessageLength}
-use Rattle.tsar.specs.declared.MessageLength.TheVariants as len
-use Rattle.tsar.specs.declared.Services.{Services}
-use Rattle.tsar.specs.declared.Services.TheVariants as optional
 use Rattle.tsar.specs.declared.MessageCrc.{MessageCrc}
 use Rattle.tsar.specs.declared.MessageCrc.TheVariants as crc
 use Rattle.tsar.specs.declared.SegmentKind.{SegmentKind}
@@ -49,11 +45,20 @@ octets_of (a ∷ b ∷ c ∷ d ∷ e ∷ f ∷ g ∷ []) = []
 
 -- ---- the numbers of the cases
 
+-- the type of a kind
+abbrev pub type_of : SegmentKind → SegmentType
+type_of (kind'.Begin n s) = type.Begin
+type_of (kind'.Continue n) = type.Continue
+type_of (kind'.End n c) = type.End
+
 -- 0 Begin, 1 Continue, 2 End
+abbrev pub number_of_type : SegmentType → ℕ
+number_of_type type.Begin = 0
+number_of_type type.Continue = 1
+number_of_type type.End = 2
+
 abbrev pub type_number : SegmentKind → ℕ
-type_number (kind'.Begin n s) = 0
-type_number (kind'.Continue n) = 1
-type_number (kind'.End n c) = 2
+type_number k = number_of_type (type_of k)
 
 -- compression 0, 1
 abbrev pub compression_number : Compression → ℕ
@@ -121,18 +126,18 @@ fields_with ps s = header_fields s ++ (octet_fields s.segment_data ++ params_fie
 
 -- ---- a segment's own parameters
 
-abbrev pub length_param : MessageLength → List Param
-length_param len.Unstated = []
-length_param (len.Stated n) = stated n ∷ []
+abbrev pub length_param : Option ℕ → List Param
+length_param None = []
+length_param (Some n) = stated n ∷ []
 
-abbrev pub services_param : Services → List Param
-services_param optional.Absent = []
-services_param (optional.SpelledOut s) = services s ∷ []
+abbrev pub services_param : Option OptionalServices → List Param
+services_param None = []
+services_param (Some s) = services s ∷ []
 
-abbrev pub crc_param : MessageCrc → List Param
-crc_param crc.Absent = []
-crc_param (crc.Crc16 v) = crc16 v ∷ []
-crc_param (crc.Crc24 v) = crc24 v ∷ []
+abbrev pub crc_param : Option MessageCrc → List Param
+crc_param None = []
+crc_param (Some (crc.Crc16 v)) = crc16 v ∷ []
+crc_param (Some (crc.Crc24 v)) = crc24 v ∷ []
 
 -- the length first
 abbrev pub parameters : SegmentKind → List Param
@@ -143,9 +148,3 @@ parameters (kind'.End n c) = length_param n ++ crc_param c
 -- the octets of a segment, as they are written
 abbrev pub written : WholeSegment → List ℕ
 written s = octets_of (bits (fields_with (parameters s.kind) s))
-
--- the type of a kind
-abbrev pub type_of : SegmentKind → SegmentType
-type_of (kind'.Begin n s) = type.Begin
-type_of (kind'.Continue n) = type.Continue
-type_of (kind'.End n c) = type.End

@@ -1,12 +1,9 @@
 -- Document 01's numbers, 'Refusals by what is returned': the number n and the field m of each refusal of the codec.
-use Rattle.std.specs.Prelude.{ℕ}
-use Rattle.std.proofs.Math.Option.{Option, none, some}
+use Rattle.std.specs.Prelude.{ℕ, Option, Result, Some, None, Ok, Err}
 use Rattle.tsar.specs.declared.ErrorField.{ErrorField}
 use Rattle.tsar.specs.declared.ErrorField.TheVariants as field
 use Rattle.tsar.specs.declared.Error.{Error}
 use Rattle.tsar.specs.declared.Error.TheVariants as error
-use Rattle.tsar.specs.declared.Validated.{Validated}
-use Rattle.tsar.specs.declared.Validated.TheVariants as validated
 use Rattle.tsar.specs.Rows.{Refusal}
 
 -- 6/1 to 6/7
@@ -31,6 +28,6 @@ number error.Reserved = (7, 0)
 number error.DuplicateParameter = (8, 0)
 
 -- what a check says, by number
-abbrev pub validated_by : Validated → Option Refusal
-validated_by validated.Valid = none
-validated_by (validated.Refused e) = some (number e)
+abbrev pub validated_by : Result Unit Error → Option Refusal
+validated_by (Ok tt) = None
+validated_by (Err e) = Some (number e)

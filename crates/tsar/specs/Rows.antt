@@ -1,7 +1,6 @@
 -- Ordered tests: the first that holds decides. Document 01's refusals are lists of such rows, in its order.
-use Rattle.std.specs.Prelude.{◌≡◌, refl, List, [], ◌∷◌, ◌++◌, Bool, true, false, cond, ◌||◌, ℕ, zero, suc, drop, get_or}
+use Rattle.std.specs.Prelude.{◌≡◌, refl, List, [], ◌∷◌, ◌++◌, Bool, true, false, cond, ◌||◌, ℕ, zero, suc, drop, get_or, Option, Some, None}
 use Rattle.std.proofs.Common.{◌∙◌}
-use Rattle.std.proofs.Math.Option.{Option, none, some}
 
 -- a refusal n/m of document 01: its number n and its field m, 0 where it has none
 abbrev pub Refusal : Type 0
@@ -14,8 +13,8 @@ first_of (c ∷ cs) d = cond c.0 c.1 (first_of cs d)
 
 -- the refusal of the first test that holds
 abbrev pub refusal : {A : Type 0} → List (Bool × A) → Option A
-refusal [] = none
-refusal (c ∷ cs) = cond c.0 (some c.1) (refusal cs)
+refusal [] = None
+refusal (c ∷ cs) = cond c.0 (Some c.1) (refusal cs)
 
 -- some test of a list holds
 abbrev pub any_of : List Bool → Bool
@@ -55,12 +54,12 @@ abbrev pub AllFalse : {A : Type 0} → List (Bool × A) → Type 0
 AllFalse [] = Unit
 AllFalse (c ∷ cs) = (c.0 ≡ false) × AllFalse cs
 
-pub refusal_pass : {A : Type 0} (cs : List (Bool × A)) → AllFalse cs → refusal cs ≡ none
+pub refusal_pass : {A : Type 0} (cs : List (Bool × A)) → AllFalse cs → refusal cs ≡ None
 refusal_pass [] p = refl
 refusal_pass (c ∷ cs) p = rw p.0 (refusal_pass cs p.1)
 
 -- where nothing is refused no test holds
-pub refusal_none : {A : Type 0} (cs : List (Bool × A)) → refusal cs ≡ none → (n : ℕ) → test cs n ≡ false
+pub refusal_none : {A : Type 0} (cs : List (Bool × A)) → refusal cs ≡ None → (n : ℕ) → test cs n ≡ false
 refusal_none [] e n = refl
 refusal_none (c ∷ cs) e zero = go c.0 refl
   where
@@ -69,20 +68,20 @@ refusal_none (c ∷ cs) e zero = go c.0 refl
     go false q = q
 refusal_none (c ∷ cs) e (suc n) = refusal_none cs (go c.0 refl) n
   where
-    go : (b : Bool) → c.0 ≡ b → refusal cs ≡ none
+    go : (b : Bool) → c.0 ≡ b → refusal cs ≡ None
     go true q = cc
     go false q = cc
 
 -- rows after rows: those behind decide where none in front holds
 abbrev pub or_else : {A : Type 0} → Option A → Option A → Option A
-or_else (some a) o = some a
-or_else none o = o
+or_else (Some a) o = Some a
+or_else None o = o
 
 pub refusal_append : {A : Type 0} (cs ds : List (Bool × A)) → refusal (cs ++ ds) ≡ or_else (refusal cs) (refusal ds)
 refusal_append [] ds = refl
 refusal_append (c ∷ cs) ds = go c.0 (refusal_append cs ds)
   where
-    go : (b : Bool) → refusal (cs ++ ds) ≡ or_else (refusal cs) (refusal ds) → cond b (some c.1) (refusal (cs ++ ds)) ≡ or_else (cond b (some c.1) (refusal cs)) (refusal ds)
+    go : (b : Bool) → refusal (cs ++ ds) ≡ or_else (refusal cs) (refusal ds) → cond b (Some c.1) (refusal (cs ++ ds)) ≡ or_else (cond b (Some c.1) (refusal cs)) (refusal ds)
     go true e = refl
     go false e = e
 
@@ -98,7 +97,7 @@ past [] (suc k) e = refl
 past (c ∷ cs) zero e = rw e
 past (c ∷ cs) (suc k) e = past cs k e
 
-here : {A : Type 0} (cs : List (Bool × A)) (d : A) (k : ℕ) → test cs k ≡ true → refusal (drop k cs) ≡ some (value cs d k)
+here : {A : Type 0} (cs : List (Bool × A)) (d : A) (k : ℕ) → test cs k ≡ true → refusal (drop k cs) ≡ Some (value cs d k)
 here [] d zero e = cc
 here [] d (suc k) e = cc
 here (c ∷ cs) d zero e = rw e
@@ -110,7 +109,7 @@ start cs = record { rest = refl }
 pub skip : {A : Type 0} {cs : List (Bool × A)} {k : ℕ} → Passed cs k → test cs k ≡ false → Passed cs (suc k)
 skip {cs = cs} {k = k} p e = record { rest = p.rest ∙ past cs k e }
 
-pub stop : {A : Type 0} {cs : List (Bool × A)} {k : ℕ} (d : A) → Passed cs k → test cs k ≡ true → refusal cs ≡ some (value cs d k)
+pub stop : {A : Type 0} {cs : List (Bool × A)} {k : ℕ} (d : A) → Passed cs k → test cs k ≡ true → refusal cs ≡ Some (value cs d k)
 stop {cs = cs} {k = k} d p e = p.rest ∙ here cs d k e
 
 -- the same of first_of

@@ -1,7 +1,5 @@
 -- When octets spell a segment, with so many octets left unparsed: the relation that reading is held to, both ways.
-use Rattle.std.specs.Prelude.{ℕ, ◌≤◌, ◌<◌, ◌≡◌, List, [], ◌∷◌, ◌++◌, reverse, length, get_or, take}
-use Rattle.tsar.specs.declared.MessageLength.{MessageLength}
-use Rattle.tsar.specs.declared.MessageLength.TheVariants as len
+use Rattle.std.specs.Prelude.{ℕ, ◌≤◌, ◌<◌, ◌≡◌, List, [], ◌∷◌, ◌++◌, reverse, length, get_or, take, Option, Some, None}
 use Rattle.tsar.specs.declared.MessageCrc.{MessageCrc}
 use Rattle.tsar.specs.declared.MessageCrc.TheVariants as crc
 use Rattle.tsar.specs.declared.SegmentType.{SegmentType}
@@ -16,14 +14,14 @@ pub data AnyOrder (ps qs : List Param) : Type 0 where
   turned : ps ≡ reverse qs → AnyOrder ps qs
 
 -- every value within the width of its field, and a Begin's sequence 0
-abbrev pub LengthFits : MessageLength → Type 0
-LengthFits len.Unstated = Unit {0}
-LengthFits (len.Stated n) = n ≤ 4095
+abbrev pub LengthFits : Option ℕ → Type 0
+LengthFits None = Unit {0}
+LengthFits (Some n) = n ≤ 4095
 
-abbrev pub CrcFits : MessageCrc → Type 0
-CrcFits crc.Absent = Unit {0}
-CrcFits (crc.Crc16 v) = v < 65536
-CrcFits (crc.Crc24 v) = v < 16777216
+abbrev pub CrcFits : Option MessageCrc → Type 0
+CrcFits None = Unit {0}
+CrcFits (Some (crc.Crc16 v)) = v < 65536
+CrcFits (Some (crc.Crc24 v)) = v < 16777216
 
 abbrev pub KindFits : ℕ → SegmentKind → Type 0
 KindFits sequence (kind'.Begin n s) = (sequence ≡ 0) × LengthFits n

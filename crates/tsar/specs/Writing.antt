@@ -1,18 +1,14 @@
 -- What writing a segment answers and leaves: the tests in document 01's order, then the octets of the layout.
-use Rattle.std.specs.Prelude.{ℕ, ◌+◌, ◌≤◌, ◌<◌, ◌≡◌, Bool, false, List, [], ◌∷◌, ◌++◌, length, ltb}
-use Rattle.std.proofs.Math.Option.{Option, none, some}
+use Rattle.std.specs.Prelude.{ℕ, ◌+◌, ◌≤◌, ◌<◌, ◌≡◌, Bool, false, List, [], ◌∷◌, ◌++◌, length, ltb, Option, Result, Some, None, Ok, Err}
+use Rattle.tsar.specs.declared.encode.EncodeError.{EncodeError}
+use Rattle.tsar.specs.declared.encode.EncodeError.TheVariants.{Output}
+use Rattle.tsar.specs.declared.encode.EncodeError.TheVariants.{Codec}
 use Rattle.std.proofs.lemmas.List.Edits.{sets}
-use Rattle.tsar.specs.declared.MessageLength.{MessageLength}
-use Rattle.tsar.specs.declared.MessageLength.TheVariants as len
-use Rattle.tsar.specs.declared.Services.{Services}
-use Rattle.tsar.specs.declared.Services.TheVariants as optional
 use Rattle.tsar.specs.declared.MessageCrc.{MessageCrc}
 use Rattle.tsar.specs.declared.MessageCrc.TheVariants as crc
 use Rattle.tsar.specs.declared.SegmentKind.{SegmentKind}
 use Rattle.tsar.specs.declared.SegmentKind.TheVariants as kind'
 use Rattle.tsar.specs.declared.Segment.{Segment}
-use Rattle.tsar.specs.declared.encode.EncodeAnswer.{EncodeAnswer}
-use Rattle.tsar.specs.declared.encode.EncodeAnswer.TheVariants as answered
 pub use Rattle.tsar.specs.Numbers.{validated_by}
 use Rattle.tsar.specs.Rows.{Refusal, refusal}
 use Rattle.tsar.specs.Numbers.{number}
@@ -20,24 +16,24 @@ use Rattle.tsar.specs.Layout.{WholeSegment, whole, Param, services_param, crc_pa
 use Rattle.tsar.specs.Reading.{begin_test}
 use Rattle.tsar.specs.Spells.{Octets}
 
-abbrev pub length_in : SegmentKind → MessageLength
+abbrev pub length_in : SegmentKind → Option ℕ
 length_in (kind'.Begin n s) = n
 length_in (kind'.Continue n) = n
 length_in (kind'.End n c) = n
 
-abbrev pub crc_in : SegmentKind → MessageCrc
-crc_in (kind'.Begin n s) = crc.Absent
-crc_in (kind'.Continue n) = crc.Absent
+abbrev pub crc_in : SegmentKind → Option MessageCrc
+crc_in (kind'.Begin n s) = None
+crc_in (kind'.Continue n) = None
 crc_in (kind'.End n c) = c
 
-abbrev pub too_long : MessageLength → Bool
-too_long len.Unstated = false
-too_long (len.Stated n) = ltb 4095 n
+abbrev pub too_long : Option ℕ → Bool
+too_long None = false
+too_long (Some n) = ltb 4095 n
 
-abbrev pub crc_too_large : MessageCrc → Bool
-crc_too_large crc.Absent = false
-crc_too_large (crc.Crc16 v) = false
-crc_too_large (crc.Crc24 v) = ltb 16777215 v
+abbrev pub crc_too_large : Option MessageCrc → Bool
+crc_too_large None = false
+crc_too_large (Some (crc.Crc16 v)) = false
+crc_too_large (Some (crc.Crc24 v)) = ltb 16777215 v
 
 -- the codec's tests of a segment with n octets of data, under a version
 abbrev pub codec_rows : ℕ → Segment → ℕ → List (Bool × Refusal)
@@ -60,8 +56,8 @@ pub record Written : Type 0 where
   pub output : List ℕ
 
 abbrev pub after_tests : Option Refusal → List ℕ → List ℕ → Written
-after_tests (some n) l out = record { answer = refused n; output = out }
-after_tests none l out = record { answer = wrote (length l); output = sets out 0 l }
+after_tests (Some n) l out = record { answer = refused n; output = out }
+after_tests None l out = record { answer = wrote (length l); output = sets out 0 l }
 
 -- the codec's tests, then 61
 abbrev pub encode_rows : ℕ → Segment → List ℕ → List ℕ → List (Bool × Refusal)
@@ -71,29 +67,25 @@ unfoldable pub encode_of : ℕ → Segment → List ℕ → List ℕ → Written
 encode_of version s l out = after_tests (refusal (encode_rows version s l out)) (written (whole s l)) out
 
 -- what encode's answer says, beside the output that it leaves
-abbrev pub leaves : EncodeAnswer → List ℕ → Written
-leaves (answered.Encoded n) out = record { answer = wrote n; output = out }
-leaves (answered.Refused e) out = record { answer = refused (number e); output = out }
-leaves answered.OutputTooShort out = record { answer = refused (61, 0); output = out }
+abbrev pub leaves : Result ℕ EncodeError → List ℕ → Written
+leaves (Ok n) out = record { answer = wrote n; output = out }
+leaves (Err (Codec e)) out = record { answer = refused (number e); output = out }
+leaves (Err Output) out = record { answer = refused (61, 0); output = out }
 
 -- the octets of a segment beside its data
-abbrev pub length_octets : MessageLength → ℕ
-length_octets len.Unstated = 0
-length_octets (len.Stated n) = 2
+abbrev pub word_octets : {A : Type 0} → Option A → ℕ
+word_octets None = 0
+word_octets (Some x) = 2
 
-abbrev pub services_octets : Services → ℕ
-services_octets optional.Absent = 0
-services_octets (optional.SpelledOut s) = 2
-
-abbrev pub crc_octets : MessageCrc → ℕ
-crc_octets crc.Absent = 0
-crc_octets (crc.Crc16 v) = 3
-crc_octets (crc.Crc24 v) = 4
+abbrev pub crc_octets : Option MessageCrc → ℕ
+crc_octets None = 0
+crc_octets (Some (crc.Crc16 v)) = 3
+crc_octets (Some (crc.Crc24 v)) = 4
 
 unfoldable pub header_octets : SegmentKind → ℕ
-header_octets (kind'.Begin n s) = 3 + length_octets n + services_octets s
-header_octets (kind'.Continue n) = 3 + length_octets n
-header_octets (kind'.End n c) = 3 + length_octets n + crc_octets c
+header_octets (kind'.Begin n s) = 3 + word_octets n + word_octets s
+header_octets (kind'.Continue n) = 3 + word_octets n
+header_octets (kind'.End n c) = 3 + word_octets n + crc_octets c
 
 -- ---- what the steps of writing speak of
 
@@ -116,10 +108,10 @@ abbrev pub in_room : List ℕ → List ℕ → Written
 in_room l out = after_tests (refusal ((ltb (length out) (length l), (61, 0)) ∷ [])) l out
 
 -- what the types of the fields say of every segment
-abbrev pub CrcTyped : MessageCrc → Type 0
-CrcTyped crc.Absent = Unit {0}
-CrcTyped (crc.Crc16 v) = v < 65536
-CrcTyped (crc.Crc24 v) = Unit {0}
+abbrev pub CrcTyped : Option MessageCrc → Type 0
+CrcTyped None = Unit {0}
+CrcTyped (Some (crc.Crc16 v)) = v < 65536
+CrcTyped (Some (crc.Crc24 v)) = Unit {0}
 
 pub record Typed (s : WholeSegment) : Type 0 where
   pub sequence_typed : s.sequence_number < 256

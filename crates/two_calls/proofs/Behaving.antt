@@ -4,7 +4,7 @@
 use mathlib.Core.Path.{◌≡◌, refl, sym, ap, ◌∙◌}
 use mathlib.Core.Bool.{Bool, true, false}
 use mathlib.Core.List.{List}
-use mathlib.Core.Option.{Option, none, some}
+use Rattle.std.specs.Prelude.{Option, Some, None}
 use Prim.Native.Nat.{ℕ, zero, suc}
 use native.Mathlib.Omega.{arith}
 use Rattle.tsar.specs.Rows.{Refusal, refusal}
@@ -42,8 +42,8 @@ module _ (Makes : List ℕ → ℕ → List ℕ → Type 0) (Call : Bool → Lis
 module _ (before : List ℕ) {A : Type 0} (code : A → ℕ) (image : A → List ℕ) (left : ℕ → A) (done : A) (same : (n : ℕ) → image (left n) ≡ before) where
   undone : (o : Option Refusal) → ((code done ≡ 0 → ⊥) → image done ≡ before) → (code (unless_refused o left done) ≡ 0 → ⊥)
       → image (unless_refused o left done) ≡ before
-  undone (some x) w p = same (code_of x)
-  undone none w p = w p
+  undone (Some x) w p = same (code_of x)
+  undone None w p = w p
 
   pub unchanged_by : (o : Option Refusal) (c : A) → c ≡ unless_refused o left done → ((code done ≡ 0 → ⊥) → image done ≡ before) → (code c ≡ 0 → ⊥) → image c ≡ before
   unchanged_by o c e w p = ap image e ∙ undone o w (λ z. p (ap code e ∙ z))
@@ -51,13 +51,13 @@ module _ (before : List ℕ) {A : Type 0} (code : A → ℕ) (image : A → List
 -- a call behind the exports' own tests, by its contract
 module _ (ok : List ℕ → Bool) (before : List ℕ) (tests : List (Bool × Refusal)) {A : Type 0} (code : A → ℕ) (image : A → List ℕ) (left : ℕ → A) (done : A)
     (sees : (n : ℕ) → code (left n) ≡ n) (same : (n : ℕ) → image (left n) ≡ before) where
-  stays : (c : A) → c ≡ unless_refused (refusal tests) left done → (refusal tests ≡ none → ok (image c) ≡ true) → ok before ≡ true
+  stays : (c : A) → c ≡ unless_refused (refusal tests) left done → (refusal tests ≡ None → ok (image c) ≡ true) → ok before ≡ true
       → (o : Option Refusal) → refusal tests ≡ o → ok (image c) ≡ true
-  stays c e w p none h = w h
-  stays c e w p (some x) h = ap (λ (a : A). ok (image a)) (e ∙ ap (λ (o : Option Refusal). unless_refused o left done) h) ∙ ap ok (same (code_of x)) ∙ p
+  stays c e w p None h = w h
+  stays c e w p (Some x) h = ap (λ (a : A). ok (image a)) (e ∙ ap (λ (o : Option Refusal). unless_refused o left done) h) ∙ ap ok (same (code_of x)) ∙ p
 
-  pub by_contract : (c : A) → c ≡ unless_refused (refusal tests) left done → (others : Bool) → all_pass own tests ≡ true → (refusal tests ≡ none → ok before ≡ true)
-      → (others ≡ true → ok before ≡ true → all_pass other_refusal tests ≡ true) → other (code done) ≡ true → (refusal tests ≡ none → ok (image c) ≡ true)
+  pub by_contract : (c : A) → c ≡ unless_refused (refusal tests) left done → (others : Bool) → all_pass own tests ≡ true → (refusal tests ≡ None → ok before ≡ true)
+      → (others ≡ true → ok before ≡ true → all_pass other_refusal tests ≡ true) → other (code done) ≡ true → (refusal tests ≡ None → ok (image c) ≡ true)
       → Behaves ok others before (code c) (image c)
   by_contract c e others all reads fits does writes =
       record {

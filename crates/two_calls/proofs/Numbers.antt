@@ -3,7 +3,8 @@
 use mathlib.Core.Path.{◌≡◌, refl}
 use mathlib.Core.Bool.{Bool, true, false, not}
 use mathlib.Core.List.{List, [], ◌∷◌}
-use mathlib.Core.Option.{Option, none, some}
+use Rattle.std.specs.Prelude.{Option, Result, Some, None, Ok, Err}
+use Rattle.tsar.specs.declared.decode.Parsed.{Parsed}
 use Prim.Native.Nat.{ℕ, zero, suc, ◌+◌, ◌/◌}
 use lib.Dec.{eqb, ltb, leb}
 use lib.ListN.{length, get_or, drop}
@@ -17,8 +18,6 @@ use Rattle.tsar.specs.declared.ErrorField.TheVariants as field
 use Rattle.tsar.specs.declared.AcknowledgmentWindow.{AcknowledgmentWindow}
 use Rattle.tsar.specs.declared.SegmentType.{SegmentType}
 use Rattle.tsar.specs.declared.SegmentType.TheVariants as type
-use Rattle.tsar.specs.declared.decode.ParamsRead.{ParamsRead}
-use Rattle.tsar.specs.declared.decode.ParamsRead.TheVariants as params
 use Rattle.link.specs.declared.MobileIdentity.{MobileIdentity}
 use Rattle.link.specs.declared.HigherLayerProtocol.{HigherLayerProtocol}
 use Rattle.tsar.specs.Kinds.{prohibited}
@@ -37,8 +36,8 @@ use Rattle.receiver_answers.specs.Answers.{answer_code}
 use Rattle.two_calls.proofs.Passing.{both, either_left, first_passes, all_pass, passes, refusal_passes, and_left, other, other_refusal, fine}
 
 or_else_passes : {A : Type 0} (g : A → Bool) (a b : Option A) → passes g a ≡ true → passes g b ≡ true → passes g (or_else a b) ≡ true
-or_else_passes g none b p q = q
-or_else_passes g (some x) b p q = p
+or_else_passes g None b p q = q
+or_else_passes g (Some x) b p q = p
 
 -- ---- the codec
 
@@ -93,8 +92,8 @@ unfolding frozen_refusal
 checking_fine p = or_else_passes fine (refusal (frozen_rows p)) (segments_from p p.count 0) (refusal_passes fine (frozen_rows p) refl) (segments_fine p p.count 0)
 
 checked_fine : (o : Option Refusal) (p : Proposal) → passes fine o ≡ true → passes fine (checked_as o p).refused ≡ true
-checked_fine none p e = e
-checked_fine (some x) p e = e
+checked_fine None p e = e
+checked_fine (Some x) p e = e
 
 pub frozen_fine : (p : Proposal) → passes fine (try_from_frozen p).refused ≡ true
 unfolding try_from_frozen
@@ -122,8 +121,8 @@ unfolding try_new_of
 receiver_new_fine t reading = go (refusal (try_new_rows t)) (refusal_passes fine (try_new_rows t) refl)
   where
     go : (o : Option Refusal) → passes fine o ≡ true → passes fine (made_after o t reading).refused ≡ true
-    go none e = e
-    go (some x) e = e
+    go None e = e
+    go (Some x) e = e
 
 module _ (interval : ℕ) (r : Receiver) (a : Arrival) (store output : List ℕ) where
   settle_fine : (o : Outcome) → fine_answer (settle interval o r a store output).answer ≡ true
@@ -143,8 +142,8 @@ module _ (interval : ℕ) (r : Receiver) (a : Arrival) (store output : List ℕ)
   receive_fine = go (refusal (receive_rows interval r a store output)) (refusal_passes fine (receive_rows interval r a store output) refl)
     where
       go : (o : Option Refusal) → passes fine o ≡ true → fine_answer (receive_after interval o r a store output).answer ≡ true
-      go none e = late_fine (late r.progress.deadline_monotonic_ms a.reading) (prohibited r.progress.services.acknowledgment_window)
-      go (some x) e = e
+      go None e = late_fine (late r.progress.deadline_monotonic_ms a.reading) (prohibited r.progress.services.acknowledgment_window)
+      go (Some x) e = e
 
 module _ (r : Receiver) (store : List ℕ) (reading : ℕ) where
   fires_fine : (d p : Bool) → fine_answer (fires d p r store reading).answer ≡ true
@@ -157,16 +156,16 @@ module _ (r : Receiver) (store : List ℕ) (reading : ℕ) where
   advance_fine = go (refusal (clock_rows r store reading)) (refusal_passes fine (clock_rows r store reading) refl)
     where
       go : (o : Option Refusal) → passes fine o ≡ true → fine_answer (advance_after o r store reading).answer ≡ true
-      go none e = fires_fine (due r.progress.deadline_monotonic_ms reading) (prohibited r.progress.services.acknowledgment_window)
-      go (some x) e = e
+      go None e = fires_fine (due r.progress.deadline_monotonic_ms reading) (prohibited r.progress.services.acknowledgment_window)
+      go (Some x) e = e
 
   -- cancel and release answer alike behind their rows
   closing_fine : (rows : List (Bool × Refusal)) → all_pass fine rows ≡ true → fine_answer (cancel_after (refusal rows) r store reading).answer ≡ true
   closing_fine rows e = go (refusal rows) (refusal_passes fine rows e)
     where
       go : (o : Option Refusal) → passes fine o ≡ true → fine_answer (cancel_after o r store reading).answer ≡ true
-      go none p = refl
-      go (some x) p = p
+      go None p = refl
+      go (Some x) p = p
 
   pub cancel_fine : fine_answer (cancel_of r store reading).answer ≡ true
   unfolding cancel_of
@@ -182,14 +181,14 @@ abbrev fine_decoded : Decoded → Bool
 fine_decoded (decoded s unparsed) = true
 fine_decoded (unread x) = fine x
 
-params_fine : (t : SegmentType) (l : List ℕ) (p : ParamsRead) → fine_decoded (with_params t l p) ≡ true
-params_fine t l (params.Read x) = refl
-params_fine t l (params.Refused e) = error_fine e
+params_fine : (t : SegmentType) (l : List ℕ) (p : Result Parsed Error) → fine_decoded (with_params t l p) ≡ true
+params_fine t l (Ok x) = refl
+params_fine t l (Err e) = error_fine e
 
 as_fine : (t : SegmentType) (l : List ℕ) → fine_decoded (segment_as t l) ≡ true
 unfolding segment_as
 as_fine t l =
-    let p : ParamsRead = params_of t (3 + get_or l 2 0) (drop (3 + get_or l 2 0) l) in
+    let p : Result Parsed Error = params_of t (3 + get_or l 2 0) (drop (3 + get_or l 2 0) l) in
     first_passes fine_decoded
     ((ltb (length l) 3, unread (2, 0)) ∷ (begin_test t (get_or l 1 0), unread (6, 3)) ∷ (ltb (length l) (3 + get_or l 2 0), unread (2, 0)) ∷ [])
     (with_params t l p)

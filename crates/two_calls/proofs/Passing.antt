@@ -3,7 +3,7 @@
 use mathlib.Core.Path.{◌≡◌, refl, sym, ap, ◌∙◌}
 use mathlib.Core.Bool.{Bool, true, false, cond, not, ◌&&◌, ◌||◌, true≢false}
 use mathlib.Core.List.{List, [], ◌∷◌}
-use mathlib.Core.Option.{Option, none, some}
+use Rattle.std.specs.Prelude.{Option, Some, None}
 use Prim.Native.Nat.{ℕ}
 use lib.Dec.{eqb}
 use Rattle.tsar.specs.Rows.{Refusal, first_of, refusal}
@@ -40,10 +40,10 @@ not_false_is false e = absurd (true≢false e)
 -- ---- what octets spell, if they spell anything
 
 abbrev pub is_some : {A : Type 0} → Option A → Bool
-is_some none = false
-is_some (some x) = true
+is_some None = false
+is_some (Some x) = true
 
-pub cond_some : {A : Type 0} (b : Bool) (x : A) → is_some (cond b (some x) none) ≡ b
+pub cond_some : {A : Type 0} (b : Bool) (x : A) → is_some (cond b (Some x) None) ≡ b
 cond_some true x = refl
 cond_some false x = refl
 
@@ -64,10 +64,10 @@ module _ {A : Type 0} (g : A → Bool) where
 
   -- of what is refused
   abbrev pub passes : Option A → Bool
-  passes none = true
-  passes (some x) = g x
+  passes None = true
+  passes (Some x) = g x
 
-  row_refused : (t : Bool) (v : A) (o : Option A) (rest : Bool) → ((g v || not t) && rest) ≡ true → (rest ≡ true → passes o ≡ true) → passes (cond t (some v) o) ≡ true
+  row_refused : (t : Bool) (v : A) (o : Option A) (rest : Bool) → ((g v || not t) && rest) ≡ true → (rest ≡ true → passes o ≡ true) → passes (cond t (Some v) o) ≡ true
   row_refused true v o rest p f = or_left (g v) (and_left (g v || false) rest p)
   row_refused false v o rest p f = f (and_right (g v || true) rest p)
 
@@ -111,15 +111,15 @@ fine_not_done x p e = not_done_lem x (and_right (other_refusal x) (not_done x) p
 module _ {A : Type 0} (code : A → ℕ) (left : ℕ → A) (done : A) (sees : (n : ℕ) → code (left n) ≡ n) where
   -- its number is another where those of the rows that hold and of what it does are
   pub call_other : (o : Option Refusal) → passes other_refusal o ≡ true → other (code done) ≡ true → other (code (unless_refused o left done)) ≡ true
-  call_other (some x) p q = ap other (sees (code_of x)) ∙ p
-  call_other none p q = q
+  call_other (Some x) p q = ap other (sees (code_of x)) ∙ p
+  call_other None p q = q
 
   -- where its number is not one of the exports' own, they refused nothing
-  pub call_passed : (o : Option Refusal) → passes own o ≡ true → own_number (code (unless_refused o left done)) ≡ false → o ≡ none
-  call_passed (some x) p q = absurd (true≢false (sym p ∙ ap own_number (sym (sees (code_of x))) ∙ q))
-  call_passed none p q = refl
+  pub call_passed : (o : Option Refusal) → passes own o ≡ true → own_number (code (unless_refused o left done)) ≡ false → o ≡ None
+  call_passed (Some x) p q = absurd (true≢false (sym p ∙ ap own_number (sym (sees (code_of x))) ∙ q))
+  call_passed None p q = refl
 
   -- nor where it is 0
-  pub call_done : (o : Option Refusal) → passes not_done o ≡ true → code (unless_refused o left done) ≡ 0 → (o ≡ none) × (code done ≡ 0)
-  call_done (some x) p q = absurd (not_done_lem x p (sym (sees (code_of x)) ∙ q))
-  call_done none p q = (refl, q)
+  pub call_done : (o : Option Refusal) → passes not_done o ≡ true → code (unless_refused o left done) ≡ 0 → (o ≡ None) × (code done ≡ 0)
+  call_done (Some x) p q = absurd (not_done_lem x p (sym (sees (code_of x)) ∙ q))
+  call_done None p q = (refl, q)

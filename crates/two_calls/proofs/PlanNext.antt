@@ -3,7 +3,8 @@
 use mathlib.Core.Path.{◌≡◌, refl, sym, ap, subst, ◌∙◌}
 use mathlib.Core.Bool.{Bool, true}
 use mathlib.Core.List.{List, []}
-use mathlib.Core.Option.{Option, none, some}
+use Rattle.std.specs.Prelude.{Option, Some, None}
+use Rattle.segmentation.specs.declared.PlannedPart.{PlannedPart}
 use Prim.Native.Nat.{ℕ}
 use native.Mathlib.Omega.{arith}
 use lib.ListN.{length}
@@ -12,8 +13,6 @@ use Rattle.segmentation.specs.Plan.{Planning, unsegmented, refused, segmented, p
 use Rattle.segmentation.specs.Frozen.{Checked, try_from_frozen}
 use Rattle.segmentation.specs.declared.FrozenMessage.{FrozenMessage}
 use Rattle.dialect.specs.Convert.{convert_of}
-use Rattle.segmentation.specs.declared.PlannedSegment.{PlannedSegment}
-use Rattle.segmentation.specs.declared.PlannedSegment.TheVariants.{NoSegment, Segment}
 use Rattle.sender.specs.TryNew.{plan_segment}
 use Rattle.image.specs.Cases.{window_of}
 use Rattle.codec_c.specs.Codes.{unless_refused}
@@ -48,8 +47,8 @@ planning_spells (refused x) before f e = absurd (fine_not_done x f e)
 planning_spells (segmented p) before f e = refl
 
 frozen_spells : (o : Option Refusal) (f : FrozenMessage) (before : List ℕ) → passes fine o ≡ true → (frozen_gives o f before).code ≡ 0 → is_some (frozen_gives o f before).spelled ≡ true
-frozen_spells none f before p e = refl
-frozen_spells (some x) f before p e = absurd (fine_not_done x p e)
+frozen_spells None f before p e = refl
+frozen_spells (Some x) f before p e = absurd (fine_not_done x p e)
 
 -- of either planner, by what it answered
 planning_done : (p : Planning) → fine_planning p ≡ true → (window : ℕ) (before plan : List ℕ) → plan_call 0 plan ≡ planning_call p window before → plan_ok plan ≡ true
@@ -76,8 +75,8 @@ planning_left (refused x) before z = refl
 planning_left (segmented p) before z = absurd (z refl)
 
 frozen_left : (o : Option Refusal) (f : FrozenMessage) (before : List ℕ) → ((frozen_gives o f before).code ≡ 0 → ⊥) → (frozen_gives o f before).plan ≡ before
-frozen_left none f before z = absurd (z refl)
-frozen_left (some x) f before z = refl
+frozen_left None f before z = absurd (z refl)
+frozen_left (Some x) f before z = refl
 
 left_by : (tests : List (Bool × Refusal)) (before : List ℕ) (n : ℕ) (plan : List ℕ) (done : PlanCall) → plan_call n plan ≡ unless_refused (refusal tests) (λ k. plan_call k before) done
     → ((done.code ≡ 0 → ⊥) → done.plan ≡ before) → (n ≡ 0 → ⊥) → plan ≡ before
@@ -120,15 +119,15 @@ making before n plan (converted heads count joined message budget version ceilin
 
 -- ---- what is read
 
-segment_other : (s : PlannedSegment) (answer : List ℕ) → other (segment_gives s answer).code ≡ true
-segment_other NoSegment answer = refl
-segment_other (Segment p) answer = refl
+segment_other : (s : Option PlannedPart) (answer : List ℕ) → other (segment_gives s answer).code ≡ true
+segment_other None answer = refl
+segment_other (Some p) answer = refl
 
 segment_behaves : (others : Bool) (plan : List ℕ) (n index : ℕ) (answer answer' : List ℕ) → part_call n answer' ≡ plan_segment_call plan index answer → Behaves plan_ok others plan n plan
 unfolding plan_segment_call
 segment_behaves others plan n index answer answer' e =
     let tests : List (Bool × Refusal) = segment_tests plan answer in
-    let reads : refusal tests ≡ none → plan_ok plan ≡ true = λ h. not_false_is (plan_ok plan) (refusal_none tests h 2) in
+    let reads : refusal tests ≡ None → plan_ok plan ≡ true = λ h. not_false_is (plan_ok plan) (refusal_none tests h 2) in
     by_contract plan_ok plan tests (λ (c : PartCall). c.code) (λ c. plan) (λ m. part_call m answer) (segment_gives (plan_segment (plan_of plan) index) answer) (λ m. refl) (λ m. refl)
     (part_call n answer') e others refl reads (λ q p. both _ _ (twice p) refl) (segment_other (plan_segment (plan_of plan) index) answer) reads
 
@@ -141,7 +140,7 @@ new_behaves others plan n image kind width value protocol octet message version 
     let tests : List (Bool × Refusal) = sender.new_tests image protocol plan in
     let terms = sender.terms_of kind width value protocol octet version profile number in
     let step = sender.new_step terms plan message reading in
-    let reads : refusal tests ≡ none → plan_ok plan ≡ true = λ h. not_false_is (plan_ok plan) (refusal_none tests h 2) in
+    let reads : refusal tests ≡ None → plan_ok plan ≡ true = λ h. not_false_is (plan_ok plan) (refusal_none tests h 2) in
     by_contract plan_ok plan tests (λ (c : sender.Call). c.code) (λ c. plan) (λ m. sender.call m image []) (sender.made_call image step) (λ m. refl) (λ m. refl)
     (sender.call n image' []) e others refl reads (λ q p. both _ _ (twice p) refl) (answer_other step.answer (sender_new_fine terms (plan_of plan) message reading)) reads
 

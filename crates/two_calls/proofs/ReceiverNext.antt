@@ -2,7 +2,7 @@
 use mathlib.Core.Path.{◌≡◌, refl, sym, ap, subst, ◌∙◌}
 use mathlib.Core.Bool.{Bool, true}
 use mathlib.Core.List.{List, []}
-use mathlib.Core.Option.{Option, none, some}
+use Rattle.std.specs.Prelude.{Option, Some, None}
 use Prim.Native.Nat.{ℕ, ◌/◌}
 use lib.ListN.{length}
 use Rattle.tsar.specs.Rows.{Refusal, refusal, refusal_none}
@@ -32,12 +32,12 @@ spelled_some image = cond_some (image_ok image) (record_of image)
 -- ---- catkhize_receiver_new
 
 made_spells : (image : List ℕ) (o : Option Refusal) (r : Receiver) → passes fine o ≡ true → (made_call image o r).code ≡ 0 → is_some (made_call image o r).receiver ≡ true
-made_spells image none r f e = refl
-made_spells image (some x) r f e = absurd (fine_not_done x f e)
+made_spells image None r f e = refl
+made_spells image (Some x) r f e = absurd (fine_not_done x f e)
 
 made_left : (image : List ℕ) (o : Option Refusal) (r : Receiver) → ((made_call image o r).code ≡ 0 → ⊥) → (made_call image o r).image ≡ image
-made_left image none r z = absurd (z refl)
-made_left image (some x) r z = refl
+made_left image None r z = absurd (z refl)
+made_left image (Some x) r z = refl
 
 new_done : (before : List ℕ) (kind width value protocol octet transaction version profile maximum reading : ℕ) (image : List ℕ)
     → call 0 image [] [] [] ≡ new_call before kind width value protocol octet transaction version profile maximum reading → image_ok image ≡ true
@@ -87,10 +87,10 @@ making before n image (receiver_new kind width value protocol octet transaction 
 
 step_behaves : (others : Bool) (octets : Answer → List ℕ) (image store output answer : List ℕ) (s : Step) (tests : List (Bool × Refusal)) (n : ℕ) (image' store' output' answer' : List ℕ)
     → call n image' store' output' answer' ≡ unless_refused (refusal tests) (λ m. call m image store output answer) (step_call octets image answer s)
-    → all_pass own tests ≡ true → (refusal tests ≡ none → image_ok image ≡ true) → (others ≡ true → image_ok image ≡ true → all_pass other_refusal tests ≡ true)
+    → all_pass own tests ≡ true → (refusal tests ≡ None → image_ok image ≡ true) → (others ≡ true → image_ok image ≡ true → all_pass other_refusal tests ≡ true)
     → fine_answer s.answer ≡ true → Behaves image_ok others image n image'
 step_behaves others octets image store output answer s tests n image' store' output' answer' e all reads fits f =
-    let writes : refusal tests ≡ none → image_ok image' ≡ true =
+    let writes : refusal tests ≡ None → image_ok image' ≡ true =
     λ h.
     sym (spelled_some image') ∙ ap (λ (c : Call). is_some c.receiver) e
     ∙ ap (λ (o : Option Refusal). is_some (unless_refused o (λ m. call m image store output answer) (step_call octets image answer s)).receiver) h in

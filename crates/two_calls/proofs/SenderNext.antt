@@ -2,14 +2,13 @@
 use mathlib.Core.Path.{◌≡◌, refl, sym, ap, subst, ◌∙◌}
 use mathlib.Core.Bool.{Bool, true}
 use mathlib.Core.List.{List, []}
-use mathlib.Core.Option.{none}
+use Rattle.std.specs.Prelude.{Option, Some, None}
+use Rattle.sender.specs.declared.Offered.{Offered}
 use Prim.Native.Nat.{ℕ}
 use Rattle.tsar.specs.Rows.{Refusal, refusal, refusal_none}
 use Rattle.sender.specs.declared.SenderState.{SenderState}
 use Rattle.sender.specs.declared.Terms.{Terms}
 use Rattle.sender.specs.declared.Sender.{Sender}
-use Rattle.sender.specs.declared.Offer.{Offer}
-use Rattle.sender.specs.declared.Offer.TheVariants.{Nothing, Submission}
 use Rattle.sender.specs.Record.{interval_of}
 use Rattle.sender.specs.Calls.{Answer, refused, answered, Step}
 use Rattle.sender.specs.TryNew.{offer_of}
@@ -58,7 +57,7 @@ making before n image (sender_new kind width value protocol octet plan message v
 -- ---- the calls that answer STATE
 
 step_behaves : (others : Bool) (image : List ℕ) (n : ℕ) (image' answer answer' : List ℕ) (s : Step) (tests : List (Bool × Refusal)) → Met tests image answer s (call n image' answer')
-    → all_pass own tests ≡ true → (refusal tests ≡ none → image_ok image ≡ true) → (others ≡ true → image_ok image ≡ true → all_pass other_refusal tests ≡ true)
+    → all_pass own tests ≡ true → (refusal tests ≡ None → image_ok image ≡ true) → (others ≡ true → image_ok image ≡ true → all_pass other_refusal tests ≡ true)
     → fine_answer s.answer ≡ true → Behaves image_ok others image n image'
 unfolding sender_call
 step_behaves others image n image' answer answer' s tests m all reads fits f =
@@ -67,22 +66,22 @@ step_behaves others image n image' answer answer' s tests m all reads fits f =
 
 -- ---- catkhize_sender_submission
 
-offer_other : (o : Offer) → other (offer_code o) ≡ true
-offer_other Nothing = refl
-offer_other (Submission x) = refl
+offer_other : (o : Option Offered) → other (offer_code o) ≡ true
+offer_other None = refl
+offer_other (Some x) = refl
 
 offer_behaves : (others : Bool) (image : List ℕ) (n : ℕ) (answer answer' : List ℕ)
     → call n image answer' ≡ offer_call (offer_tests image answer) image answer (offer_of (record_of image)) → Behaves image_ok others image n image
 unfolding offer_call
 offer_behaves others image n answer answer' e =
     let tests : List (Bool × Refusal) = offer_tests image answer in
-    let reads : refusal tests ≡ none → image_ok image ≡ true = λ h. not_false_is (image_ok image) (refusal_none tests h 2) in
+    let reads : refusal tests ≡ None → image_ok image ≡ true = λ h. not_false_is (image_ok image) (refusal_none tests h 2) in
     by_contract image_ok image tests (λ (c : Call). c.code) (λ (c : Call). c.image) (λ k. call k image answer) (offered_call image answer (offer_of (record_of image))) (λ k. refl) (λ k. refl)
     (call n image answer') e others refl reads (λ o p. both _ _ (twice p) refl) (offer_other (offer_of (record_of image))) reads
 
 -- ---- the law
 
-state_reads : (image answer : List ℕ) → refusal (state_tests image answer) ≡ none → image_ok image ≡ true
+state_reads : (image answer : List ℕ) → refusal (state_tests image answer) ≡ None → image_ok image ≡ true
 state_reads image answer h = not_false_is (image_ok image) (refusal_none (state_tests image answer) h 2)
 
 state_behaves : (others : Bool) (image : List ℕ) (n : ℕ) (image' answer answer' : List ℕ) (s : Step) → Met (state_tests image answer) image answer s (call n image' answer')

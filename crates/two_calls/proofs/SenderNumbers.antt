@@ -2,7 +2,7 @@
 use mathlib.Core.Path.{◌≡◌, refl}
 use mathlib.Core.Bool.{Bool, true, false, cond, ◌&&◌}
 use mathlib.Core.List.{List}
-use mathlib.Core.Option.{Option, none, some}
+use Rattle.std.specs.Prelude.{Option, Some, None}
 use Prim.Native.Nat.{ℕ, ◌-◌, ◌^◌}
 use lib.Dec.{ltb}
 use Rattle.tsar.specs.Rows.{Refusal, refusal}
@@ -39,8 +39,8 @@ unfolding try_new_of
 sender_new_fine t p message reading = go (refusal (try_new_rows t p message)) (refusal_passes fine (try_new_rows t p message) refl)
   where
     go : (o : Option Refusal) → passes fine o ≡ true → fine_answer (made_after o t p reading).answer ≡ true
-    go none e = refl
-    go (some x) e = e
+    go None e = refl
+    go (Some x) e = e
 
 -- ---- what the other calls are made of
 
@@ -55,8 +55,8 @@ tickets_fine : (p : Progress) (t : Turn) → Fine t → Fine (or_tickets p t)
 tickets_fine p t e = one_of (ltb (2 ^ 64 - 1) t.progress.last_ticket) (refuses (63, 0) p) t refl e
 
 refusal_fine : (o : Option Refusal) (p : Progress) (t : Turn) → passes fine o ≡ true → Fine t → Fine (on_refusal o p t)
-refusal_fine none p t e f = f
-refusal_fine (some x) p t e f = e
+refusal_fine None p t e f = f
+refusal_fine (Some x) p t e f = e
 
 -- ---- the other calls
 

@@ -1,10 +1,8 @@
 -- Laws of how many numbers below n a predicate holds at, and of the lowest where only the first n of m count. Assumes nothing.
-use Rattle.std.specs.Prelude.{◌≡◌, refl, Bool, true, false, cond, not, ℕ, zero, suc, ◌+◌, ◌-◌, ◌≤◌, ◌<◌}
+use Rattle.std.specs.Prelude.{◌≡◌, refl, Bool, true, false, cond, not, ℕ, zero, suc, ◌+◌, ◌-◌, ◌≤◌, ◌<◌, Option, Some, None}
 use Rattle.std.proofs.Common.{ap, ◌∙◌, ⊎_elim, add-zero, add-suc, add_assoc, arith}
 use Rattle.words.specs.Marks.{count_below, lowest_of}
 use Rattle.words.specs.Search.{lt_or_le, lowest_is, lowest_at, lowest_none, lowest_nothing}
-use Rattle.words.specs.declared.Found.{Found}
-use Rattle.words.specs.declared.Found.TheVariants.{Nothing, At}
 
 -- ---- how many
 
@@ -80,10 +78,10 @@ count_front m n f l h =
 pub lowest_front : (m n : ℕ) (f g : ℕ → Bool) → n ≤ m → ((i : ℕ) → i < m → f i ≡ g i) → ((i : ℕ) → n ≤ i → g i ≡ false) → lowest_of f m ≡ lowest_of g n
 lowest_front m n f g l e h = go (lowest_of g n) refl
   where
-    go : (s : Found) → lowest_of g n ≡ s → lowest_of f m ≡ s
-    go Nothing p =
+    go : (s : Option ℕ) → lowest_of g n ≡ s → lowest_of f m ≡ s
+    go None p =
         lowest_none f m (λ i q. e i q ∙ ⊎_elim (λ (k : i < n). lowest_nothing g n p i k) (λ (k : n ≤ i). h i k) (lt_or_le i n))
-    go (At k) p =
+    go (Some k) p =
         let w = lowest_is g n k p in
         let b : k < n = w.within in
         lowest_at f m k (record { within = omega arith; holds = e k (omega arith) ∙ w.holds; below = λ j q. e j (omega arith) ∙ w.below j q })

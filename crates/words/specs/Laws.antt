@@ -1,6 +1,6 @@
 -- Laws of marks: words written from a predicate have its marks, words that fit are told by their marks, and how the marks of a word lie.
 -- Assumes nothing.
-use Rattle.std.specs.Prelude.{◌≡◌, refl, Bool, false, ℕ, zero, suc, ◌+◌, ◌*◌, ◌/◌, ◌%◌, ◌^◌, ◌≤◌, ◌<◌, get_or}
+use Rattle.std.specs.Prelude.{◌≡◌, refl, Bool, false, ℕ, zero, suc, ◌+◌, ◌*◌, ◌/◌, ◌%◌, ◌^◌, ◌≤◌, ◌<◌, length, get_or, List, [], ◌∷◌}
 use Rattle.std.proofs.Common.{sym, ap, ◌∙◌, ⊎_elim, mod-eq_of_lt, arith, lit<}
 use Rattle.std.proofs.Math.ListN.{get_or-eq_default}
 use Rattle.words.specs.Marks.{words_list, bit, marked, word_from, words_of, no_marks, all_below}
@@ -8,12 +8,19 @@ use Rattle.words.specs.Search.{lt_or_le, all_below_ext}
 use Rattle.words.specs.Sums.{bit_past, sum_lt, sum_ext, sum_bits, bit_sum}
 use Rattle.words.specs.declared.Words.{Words}
 
--- each word is one of 64 bits
+-- four words of 64 bits
 pub record Fit (w : Words) : Type 0 where
-  pub a : w.a < 2 ^ 64
-  pub b : w.b < 2 ^ 64
-  pub c : w.c < 2 ^ 64
-  pub d : w.d < 2 ^ 64
+  pub four : length w.words ≡ 4
+  pub fits : (k : ℕ) → k < 4 → get_or (words_list w) k 0 < 2 ^ 64
+
+-- a list of four is its elements
+pub list_of_four : (l : List ℕ) → length l ≡ 4 → l ≡ get_or l 0 0 ∷ get_or l 1 0 ∷ get_or l 2 0 ∷ get_or l 3 0 ∷ []
+list_of_four [] h = absurd (omega arith)
+list_of_four (a ∷ []) h = absurd (omega arith)
+list_of_four (a ∷ b ∷ []) h = absurd (omega arith)
+list_of_four (a ∷ b ∷ c ∷ []) h = absurd (omega arith)
+list_of_four (a ∷ b ∷ c ∷ d ∷ []) h = refl
+list_of_four (a ∷ b ∷ c ∷ d ∷ e ∷ l) h = absurd (omega arith)
 
 -- what holds at 0, 1, 2 and 3 holds below 4
 pub by_four : (P : ℕ → Type 0) → P 0 → P 1 → P 2 → P 3 → (k : ℕ) → k < 4 → P k
@@ -22,6 +29,10 @@ by_four P p q r s (suc zero) h = q
 by_four P p q r s (suc (suc zero)) h = r
 by_four P p q r s (suc (suc (suc zero))) h = s
 by_four P p q r s (suc (suc (suc (suc k)))) h = absurd (omega arith)
+
+-- word k
+pub word_at : (w : Words) (k : ℕ) → k < 4 → get_or w.words k 0 ≡ get_or (words_list w) k 0
+word_at w = by_four (λ k. get_or w.words k 0 ≡ get_or (words_list w) k 0) refl refl refl refl
 
 -- a number's place: bit i % 64 of word i / 64
 place : (i : ℕ) → 64 * (i / 64) + i % 64 ≡ i
@@ -67,7 +78,10 @@ words_of_word f k h = by_four (λ k. get_or (words_list (words_of f)) k 0 ≡ wo
 -- each fits
 pub words_of_fit : (f : ℕ → Bool) → Fit (words_of f)
 unfolding words_of
-words_of_fit f = record { a = sum_lt 64 _; b = sum_lt 64 _; c = sum_lt 64 _; d = sum_lt 64 _ }
+words_of_fit f = record {
+  four = refl;
+  fits = by_four (λ k. get_or (words_list (words_of f)) k 0 < 2 ^ 64) (sum_lt 64 _) (sum_lt 64 _) (sum_lt 64 _) (sum_lt 64 _);
+}
 
 -- their marks are the predicate's
 pub marked_words_of : (f : ℕ → Bool) (i : ℕ) → i < 256 → marked (words_of f) i ≡ f i
@@ -79,7 +93,7 @@ marked_words_of f i h =
 pub words_of_ext : (f g : ℕ → Bool) → ((i : ℕ) → i < 256 → f i ≡ g i) → words_of f ≡ words_of g
 unfolding words_of
 words_of_ext f g h =
-    λ i. record { a = part 0 (omega arith) i; b = part 64 (omega arith) i; c = part 128 (omega arith) i; d = part 192 (omega arith) i }
+    λ i. record { words = part 0 (omega arith) i ∷ part 64 (omega arith) i ∷ part 128 (omega arith) i ∷ part 192 (omega arith) i ∷ [] }
   where
     part : (from : ℕ) → from ≤ 192 → word_from f from ≡ word_from g from
     part from l = sum_ext 64 (λ j. f (from + j)) (λ j. g (from + j)) (λ j m. h (from + j) (omega arith))
@@ -87,7 +101,9 @@ words_of_ext f g h =
 -- words that fit are those of their marks
 pub words_of_marked : (w : Words) → Fit w → words_of (marked w) ≡ w
 unfolding words_of
-words_of_marked w h = λ i. record { a = part 0 h.a i; b = part 1 h.b i; c = part 2 h.c i; d = part 3 h.d i }
+words_of_marked w h =
+    (λ i. record { words = part 0 (h.fits 0 (omega arith)) i ∷ part 1 (h.fits 1 (omega arith)) i ∷ part 2 (h.fits 2 (omega arith)) i ∷ part 3 (h.fits 3 (omega arith)) i ∷ [] })
+    ∙ ap (λ (l : List ℕ). record { words = l }) (sym (list_of_four w.words h.four))
   where
     part : (k : ℕ) → get_or (words_list w) k 0 < 2 ^ 64 → word_from (marked w) (64 * k) ≡ get_or (words_list w) k 0
     part k l = sum_ext 64 (λ j. marked w (64 * k + j)) (bit (get_or (words_list w) k 0)) (marked_word w k) ∙ sum_bits 64 (get_or (words_list w) k 0) ∙ mod-eq_of_lt l
@@ -100,9 +116,12 @@ words_of_is w f h e = sym (words_of_marked w h) ∙ words_of_ext (marked w) f e
 pub words_ext : (v w : Words) → Fit v → Fit w → ((i : ℕ) → i < 256 → marked v i ≡ marked w i) → v ≡ w
 words_ext v w p q e = words_of_is v (marked w) p e ∙ words_of_marked w q
 
+no_marks_fit : Fit no_marks
+no_marks_fit = record { four = refl; fits = by_four (λ k. get_or (words_list no_marks) k 0 < 2 ^ 64) (lit< tt) (lit< tt) (lit< tt) (lit< tt) }
+
 -- words without a mark are those of no mark
 pub none_ext : (w : Words) → Fit w → ((i : ℕ) → i < 256 → marked w i ≡ false) → w ≡ no_marks
-none_ext w h e = words_ext w no_marks h (record { a = lit< tt; b = lit< tt; c = lit< tt; d = lit< tt }) (λ i l. e i l ∙ sym (marked_none i))
+none_ext w h e = words_ext w no_marks h no_marks_fit (λ i l. e i l ∙ sym (marked_none i))
 
 -- ---- marks that were written are the marks that are read
 

@@ -1,13 +1,11 @@
 -- What the four words mean: 256 marks, mark i being bit i % 64 of word i / 64, and what is asked of marks. A set of marks is a predicate
 -- on numbers: `marked w` reads the words so, and `words_of f` writes them. The laws are in Search, Counts, Sums and Laws.
-use Rattle.std.specs.Prelude.{ℕ, zero, suc, ◌+◌, ◌/◌, ◌%◌, ◌^◌, Bool, true, cond, ◌&&◌, List, [], ◌∷◌, eqb, get_or}
+use Rattle.std.specs.Prelude.{ℕ, zero, suc, ◌+◌, ◌/◌, ◌%◌, ◌^◌, Bool, true, cond, ◌&&◌, List, [], ◌∷◌, eqb, get_or, Option, Some, None}
 use Rattle.words.specs.declared.Words.{Words}
-use Rattle.words.specs.declared.Found.{Found}
-use Rattle.words.specs.declared.Found.TheVariants.{Nothing, At}
 
 -- the four words, lowest marks first
 abbrev pub words_list : Words → List ℕ
-words_list w = w.a ∷ w.b ∷ w.c ∷ w.d ∷ []
+words_list w = get_or w.words 0 0 ∷ get_or w.words 1 0 ∷ get_or w.words 2 0 ∷ get_or w.words 3 0 ∷ []
 
 -- whether bit c of a number is set
 abbrev pub bit : ℕ → ℕ → Bool
@@ -28,11 +26,11 @@ word_from f from = sum_below 64 (λ j. f (from + j))
 
 -- the words whose marks are those of a predicate below 256
 unfoldable pub words_of : (ℕ → Bool) → Words
-words_of f = record { a = word_from f 0; b = word_from f 64; c = word_from f 128; d = word_from f 192 }
+words_of f = record { words = word_from f 0 ∷ word_from f 64 ∷ word_from f 128 ∷ word_from f 192 ∷ [] }
 
 -- no mark
 abbrev pub no_marks : Words
-no_marks = record { a = 0; b = 0; c = 0; d = 0 }
+no_marks = record { words = 0 ∷ 0 ∷ 0 ∷ 0 ∷ [] }
 
 -- whether a predicate holds at every number below n
 unfoldable pub all_below : ℕ → (ℕ → Bool) → Bool
@@ -45,16 +43,16 @@ count_below zero f = 0
 count_below (suc n) f = count_below n f + cond (f n) 1 0
 
 -- the highest number below n at which a predicate holds
-unfoldable pub highest_of : (ℕ → Bool) → ℕ → Found
-highest_of f zero = Nothing
-highest_of f (suc n) = cond (f n) (At n) (highest_of f n)
+unfoldable pub highest_of : (ℕ → Bool) → ℕ → Option ℕ
+highest_of f zero = None
+highest_of f (suc n) = cond (f n) (Some n) (highest_of f n)
 
 -- the first of two that found something
-abbrev pub found_or : Found → Found → Found
-found_or Nothing g = g
-found_or (At i) g = At i
+abbrev pub found_or : Option ℕ → Option ℕ → Option ℕ
+found_or None g = g
+found_or (Some i) g = Some i
 
 -- the lowest number below n at which a predicate holds
-unfoldable pub lowest_of : (ℕ → Bool) → ℕ → Found
-lowest_of f zero = Nothing
-lowest_of f (suc n) = found_or (lowest_of f n) (cond (f n) (At n) Nothing)
+unfoldable pub lowest_of : (ℕ → Bool) → ℕ → Option ℕ
+lowest_of f zero = None
+lowest_of f (suc n) = found_or (lowest_of f n) (cond (f n) (Some n) None)

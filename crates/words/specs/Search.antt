@@ -1,11 +1,9 @@
 -- Laws of the three questions: whether a predicate holds at all numbers below n, and the highest and the lowest at which it holds.
 -- Each has both directions, from the answer and to it. Assumes nothing.
-use Rattle.std.specs.Prelude.{◌≡◌, refl, Bool, true, false, cond, not, ◌&&◌, ◌⊎◌, ℕ, zero, suc, ◌≤◌, ◌<◌, ltb}
+use Rattle.std.specs.Prelude.{◌≡◌, refl, Bool, true, false, cond, not, ◌&&◌, ◌⊎◌, ℕ, zero, suc, ◌≤◌, ◌<◌, ltb, Option, Some, None}
 use Rattle.std.proofs.Common.{sym, ap, ◌∙◌, subst, true≢false, inl, inr, ⊎_elim, arith, ltb-true, ltb-false, lt-ltb, le-ltb}
 use Rattle.std.proofs.Math.Bool.{not-not}
 use Rattle.words.specs.Marks.{all_below, highest_of, lowest_of, found_or}
-use Rattle.words.specs.declared.Found.{Found}
-use Rattle.words.specs.declared.Found.TheVariants.{Nothing, At}
 
 -- one number is below another, or not
 pub lt_or_le : (a b : ℕ) → (a < b) ⊎ (b ≤ a)
@@ -97,12 +95,12 @@ pub record IsHighest (f : ℕ → Bool) (n k : ℕ) : Type 0 where
   pub above : (j : ℕ) → k < j → j < n → f j ≡ false
 
 -- from a number: it is the highest
-pub highest_is : (f : ℕ → Bool) (n k : ℕ) → highest_of f n ≡ At k → IsHighest f n k
+pub highest_is : (f : ℕ → Bool) (n k : ℕ) → highest_of f n ≡ Some k → IsHighest f n k
 unfolding highest_of
 highest_is f zero k e = absurd (let z : ◌≡◌ {A = ℕ} 0 1 = cc in omega arith)
 highest_is f (suc n) k e = go (f n) refl e (highest_is f n k)
   where
-    go : (t : Bool) → f n ≡ t → cond t (At n) (highest_of f n) ≡ At k → (highest_of f n ≡ At k → IsHighest f n k) → IsHighest f (suc n) k
+    go : (t : Bool) → f n ≡ t → cond t (Some n) (highest_of f n) ≡ Some k → (highest_of f n ≡ Some k → IsHighest f n k) → IsHighest f (suc n) k
     go true p e ih =
         let q : n ≡ k = cc in
         record { within = omega arith; holds = ap f (sym q) ∙ p; above = λ j a b. absurd (omega arith) }
@@ -111,7 +109,7 @@ highest_is f (suc n) k e = go (f n) refl e (highest_is f n k)
         record { within = omega (arith, h.within); holds = h.holds; above = λ j a b. below_suc (λ i. k < i → f i ≡ false) n (λ i l m. h.above i m l) (λ m. p) j b a }
 
 -- to a number
-pub highest_at : (f : ℕ → Bool) (n k : ℕ) → IsHighest f n k → highest_of f n ≡ At k
+pub highest_at : (f : ℕ → Bool) (n k : ℕ) → IsHighest f n k → highest_of f n ≡ Some k
 unfolding highest_of
 highest_at f zero k h = absurd (omega (arith, h.within))
 highest_at f (suc n) k h =
@@ -119,20 +117,20 @@ highest_at f (suc n) k h =
     (λ (l : k < n). rw (h.above n l (omega arith)) (highest_at f n k (record { within = l; holds = h.holds; above = λ j a b. h.above j a (omega arith) })))
     (λ (l : n ≤ k).
     let e : n ≡ k = omega (arith, h.within) in
-    rw (ap f e ∙ h.holds) (ap At e)) (lt_or_le k n)
+    rw (ap f e ∙ h.holds) (ap Some e)) (lt_or_le k n)
 
 -- from nothing: it holds at none
-pub highest_nothing : (f : ℕ → Bool) (n : ℕ) → highest_of f n ≡ Nothing → (i : ℕ) → i < n → f i ≡ false
+pub highest_nothing : (f : ℕ → Bool) (n : ℕ) → highest_of f n ≡ None → (i : ℕ) → i < n → f i ≡ false
 unfolding highest_of
 highest_nothing f zero e i l = absurd (omega arith)
 highest_nothing f (suc n) e i l = go (f n) refl e (highest_nothing f n) i l
   where
-    go : (t : Bool) → f n ≡ t → cond t (At n) (highest_of f n) ≡ Nothing → (highest_of f n ≡ Nothing → (i : ℕ) → i < n → f i ≡ false) → (i : ℕ) → i < suc n → f i ≡ false
+    go : (t : Bool) → f n ≡ t → cond t (Some n) (highest_of f n) ≡ None → (highest_of f n ≡ None → (i : ℕ) → i < n → f i ≡ false) → (i : ℕ) → i < suc n → f i ≡ false
     go true p e ih = absurd (let z : ◌≡◌ {A = ℕ} 0 1 = cc in omega arith)
     go false p e ih = below_suc (λ i. f i ≡ false) n (ih e) p
 
 -- to nothing
-pub highest_none : (f : ℕ → Bool) (n : ℕ) → ((i : ℕ) → i < n → f i ≡ false) → highest_of f n ≡ Nothing
+pub highest_none : (f : ℕ → Bool) (n : ℕ) → ((i : ℕ) → i < n → f i ≡ false) → highest_of f n ≡ None
 unfolding highest_of
 highest_none f zero h = refl
 highest_none f (suc n) h = rw (h n (omega arith)) (highest_none f n (λ i l. h i (omega arith)))
@@ -146,13 +144,13 @@ pub record IsLowest (f : ℕ → Bool) (n k : ℕ) : Type 0 where
   pub below : (j : ℕ) → j < k → f j ≡ false
 
 -- to nothing
-pub lowest_none : (f : ℕ → Bool) (n : ℕ) → ((i : ℕ) → i < n → f i ≡ false) → lowest_of f n ≡ Nothing
+pub lowest_none : (f : ℕ → Bool) (n : ℕ) → ((i : ℕ) → i < n → f i ≡ false) → lowest_of f n ≡ None
 unfolding lowest_of
 lowest_none f zero h = refl
 lowest_none f (suc n) h = rw (lowest_none f n (λ i l. h i (omega arith)), h n (omega arith))
 
 -- to a number
-pub lowest_at : (f : ℕ → Bool) (n k : ℕ) → IsLowest f n k → lowest_of f n ≡ At k
+pub lowest_at : (f : ℕ → Bool) (n k : ℕ) → IsLowest f n k → lowest_of f n ≡ Some k
 unfolding lowest_of
 lowest_at f zero k h = absurd (omega (arith, h.within))
 lowest_at f (suc n) k h =
@@ -160,28 +158,28 @@ lowest_at f (suc n) k h =
     (λ (l : k < n). rw (lowest_at f n k (record { within = l; holds = h.holds; below = h.below })))
     (λ (l : n ≤ k).
     let e : n ≡ k = omega (arith, h.within) in
-    rw (lowest_none f n (λ i m. h.below i (omega arith)), ap f e ∙ h.holds) (ap At e)) (lt_or_le k n)
+    rw (lowest_none f n (λ i m. h.below i (omega arith)), ap f e ∙ h.holds) (ap Some e)) (lt_or_le k n)
 
 -- from nothing: it holds at none
-pub lowest_nothing : (f : ℕ → Bool) (n : ℕ) → lowest_of f n ≡ Nothing → (i : ℕ) → i < n → f i ≡ false
+pub lowest_nothing : (f : ℕ → Bool) (n : ℕ) → lowest_of f n ≡ None → (i : ℕ) → i < n → f i ≡ false
 unfolding lowest_of
 lowest_nothing f zero e i l = absurd (omega arith)
 lowest_nothing f (suc n) e i l = go (lowest_of f n) (f n) refl refl e (lowest_nothing f n) i l
   where
-    go : (s : Found) (t : Bool) → lowest_of f n ≡ s → f n ≡ t → found_or s (cond t (At n) Nothing) ≡ Nothing → (lowest_of f n ≡ Nothing → (i : ℕ) → i < n → f i ≡ false) → (i : ℕ) → i < suc n → f i ≡ false
-    go (At m) t p q e ih = absurd (let z : ◌≡◌ {A = ℕ} 0 1 = cc in omega arith)
-    go Nothing true p q e ih = absurd (let z : ◌≡◌ {A = ℕ} 0 1 = cc in omega arith)
-    go Nothing false p q e ih = below_suc (λ i. f i ≡ false) n (ih p) q
+    go : (s : Option ℕ) (t : Bool) → lowest_of f n ≡ s → f n ≡ t → found_or s (cond t (Some n) None) ≡ None → (lowest_of f n ≡ None → (i : ℕ) → i < n → f i ≡ false) → (i : ℕ) → i < suc n → f i ≡ false
+    go (Some m) t p q e ih = absurd (let z : ◌≡◌ {A = ℕ} 0 1 = cc in omega arith)
+    go None true p q e ih = absurd (let z : ◌≡◌ {A = ℕ} 0 1 = cc in omega arith)
+    go None false p q e ih = below_suc (λ i. f i ≡ false) n (ih p) q
 
 -- from a number: it is the lowest
-pub lowest_is : (f : ℕ → Bool) (n k : ℕ) → lowest_of f n ≡ At k → IsLowest f n k
+pub lowest_is : (f : ℕ → Bool) (n k : ℕ) → lowest_of f n ≡ Some k → IsLowest f n k
 unfolding lowest_of
 lowest_is f zero k e = absurd (let z : ◌≡◌ {A = ℕ} 0 1 = cc in omega arith)
 lowest_is f (suc n) k e = go (lowest_of f n) (f n) refl refl e (lowest_is f n k)
   where
-    go : (s : Found) (t : Bool) → lowest_of f n ≡ s → f n ≡ t → found_or s (cond t (At n) Nothing) ≡ At k → (lowest_of f n ≡ At k → IsLowest f n k) → IsLowest f (suc n) k
-    go (At m) t p q e ih = let h = ih (p ∙ e) in record { within = omega (arith, h.within); holds = h.holds; below = h.below }
-    go Nothing true p q e ih =
+    go : (s : Option ℕ) (t : Bool) → lowest_of f n ≡ s → f n ≡ t → found_or s (cond t (Some n) None) ≡ Some k → (lowest_of f n ≡ Some k → IsLowest f n k) → IsLowest f (suc n) k
+    go (Some m) t p q e ih = let h = ih (p ∙ e) in record { within = omega (arith, h.within); holds = h.holds; below = h.below }
+    go None true p q e ih =
         let d : n ≡ k = cc in
         record { within = omega arith; holds = ap f (sym d) ∙ q; below = λ j l. lowest_nothing f n p j (omega arith) }
-    go Nothing false p q e ih = absurd (let z : ◌≡◌ {A = ℕ} 0 1 = cc in omega arith)
+    go None false p q e ih = absurd (let z : ◌≡◌ {A = ℕ} 0 1 = cc in omega arith)

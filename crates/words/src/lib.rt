@@ -1,49 +1,24 @@
-// 256 marks in four 64-bit words: mark i is bit i % 64 of word i / 64. (A struct of four fields, since an enum cannot hold an array.)
+// 256 marks in four 64-bit words: mark i is bit i % 64 of word i / 64.
 #![tactic(auto)]
 
-ghost use Rattle.std.specs.Prelude.{◌≡◌, ◌||◌, ◌&&◌, not, suc, ◌<◌, eqb, ltb, get_or};
-ghost use Rattle.words.specs.Marks.{bit, words_list, marked, word_from, words_of, no_marks, highest_of, lowest_of, all_below, count_below};
+ghost use Rattle.std.specs.Prelude.{◌≡◌, ◌||◌, ◌&&◌, not, suc, ◌<◌, eqb, ltb};
+ghost use Rattle.words.specs.Marks.{bit, marked, word_from, words_of, no_marks, highest_of, lowest_of, all_below, count_below};
 ghost use Rattle.words.specs.Search.{IsHighest, IsLowest};
+
+use std::array::from_fn;
 
 #[derive(Clone, Copy)]
 pub struct Words {
-    pub a: u64,
-    pub b: u64,
-    pub c: u64,
-    pub d: u64,
-}
-
-// A mark that was looked for.
-#[derive(Clone, Copy)]
-pub enum Found {
-    Nothing,
-    At(u8),
-}
-
-// Mark i among the 64 from `from` on, as a word.
-fn mark_in(i: u8, from: u8) -> u64
-    ensures { result ≡ word_from (λ j. eqb j i) from }
-{
-    if i < from {
-        return 0;
-    }
-    let k = i - from;
-    if 64 <= k {
-        return 0;
-    }
-    1u64 << k
+    pub words: [u64; 4],
 }
 
 // The marks below n among the 64 from `from` on, as a word.
 fn front_in(n: u16, from: u16) -> u64
     ensures { result ≡ word_from (λ j. ltb j n) from }
 {
-    if n <= from {
-        return 0;
-    }
-    let k = n - from;
+    let k = n.saturating_sub(from);
     if 64 <= k {
-        return 18446744073709551615;
+        return u64::MAX;
     }
     (1u64 << k) - 1
 }
@@ -53,7 +28,7 @@ fn top(word: u64) -> u8
     requires { 0 < word }
     ensures { IsHighest (bit word) 64 result }
 {
-    63 - u64::leading_zeros(word) as u8
+    63 - word.leading_zeros() as u8
 }
 
 // The lowest set bit of a word that has one.
@@ -61,14 +36,14 @@ fn bottom(word: u64) -> u8
     requires { 0 < word }
     ensures { IsLowest (bit word) 64 result }
 {
-    u64::trailing_zeros(word) as u8
+    word.trailing_zeros() as u8
 }
 
 // How many bits of a word are set.
 fn ones_in(word: u64) -> u16
     ensures { result ≡ count_below 64 (bit word) }
 {
-    u64::count_ones(word) as u16
+    word.count_ones() as u16
 }
 
 impl Words {
@@ -76,24 +51,16 @@ impl Words {
     pub fn none() -> Words
         ensures { result ≡ no_marks }
     {
-        Words {
-            a: 0,
-            b: 0,
-            c: 0,
-            d: 0,
-        }
+        Words { words: [0; 4] }
     }
 
     // Mark i alone.
     pub fn one(i: u8) -> Words
         ensures { result ≡ words_of (λ j. eqb j i) }
     {
-        Words {
-            a: mark_in(i, 0),
-            b: mark_in(i, 64),
-            c: mark_in(i, 128),
-            d: mark_in(i, 192),
-        }
+        let mut words = [0; 4];
+        words[(i / 64) as usize] = 1 << (i % 64);
+        Words { words }
     }
 
     // Every mark below n.
@@ -101,23 +68,12 @@ impl Words {
         ensures { result ≡ words_of (λ j. ltb j n) }
     {
         Words {
-            a: front_in(n, 0),
-            b: front_in(n, 64),
-            c: front_in(n, 128),
-            d: front_in(n, 192),
-        }
-    }
-
-    // Word k of the four.
-    fn word(self, k: u8) -> u64
-        ensures { result ≡ get_or (words_list self) k 0 }
-    {
-        match k {
-            0 => self.a,
-            1 => self.b,
-            2 => self.c,
-            3 => self.d,
-            _ => 0,
+            words: [
+                front_in(n, 0),
+                front_in(n, 64),
+                front_in(n, 128),
+                front_in(n, 192),
+            ],
         }
     }
 
@@ -125,7 +81,7 @@ impl Words {
     pub fn has(self, i: u8) -> bool
         ensures { result ≡ marked self i }
     {
-        let word = self.word(i / 64);
+        let word = self.words[(i / 64) as usize];
         (word >> (i % 64)) % 2 == 1
     }
 
@@ -134,10 +90,7 @@ impl Words {
         ensures { result ≡ words_of (λ j. marked self j || marked w j) }
     {
         Words {
-            a: self.a | w.a,
-            b: self.b | w.b,
-            c: self.c | w.c,
-            d: self.d | w.d,
+            words: from_fn(|k| self.words[k] | w.words[k]),
         }
     }
 
@@ -146,10 +99,7 @@ impl Words {
         ensures { result ≡ words_of (λ j. marked self j && marked w j) }
     {
         Words {
-            a: self.a & w.a,
-            b: self.b & w.b,
-            c: self.c & w.c,
-            d: self.d & w.d,
+            words: from_fn(|k| self.words[k] & w.words[k]),
         }
     }
 
@@ -158,10 +108,7 @@ impl Words {
         ensures { result ≡ words_of (λ j. marked self j && not (marked w j)) }
     {
         Words {
-            a: self.a & !w.a,
-            b: self.b & !w.b,
-            c: self.c & !w.c,
-            d: self.d & !w.d,
+            words: from_fn(|k| self.words[k] & !w.words[k]),
         }
     }
 
@@ -190,7 +137,7 @@ impl Words {
     pub fn is_none(self) -> bool
         ensures { result ≡ all_below 256 (λ j. not (marked self j)) }
     {
-        (self.a | self.b | self.c | self.d) == 0
+        self.words == [0; 4]
     }
 
     // Whether marks 0 to e are all set.
@@ -208,49 +155,35 @@ impl Words {
     }
 
     // The highest mark.
-    pub fn highest(self) -> Found
+    pub fn highest(self) -> Option<u8>
         ensures { result ≡ highest_of (marked self) 256 }
     {
-        if self.d != 0 {
-            return Found::At(192 + top(self.d));
+        for k in (0..4).rev() {
+            if self.words[k] != 0 {
+                return Some(64 * k as u8 + top(self.words[k]));
+            }
         }
-        if self.c != 0 {
-            return Found::At(128 + top(self.c));
-        }
-        if self.b != 0 {
-            return Found::At(64 + top(self.b));
-        }
-        if self.a != 0 {
-            return Found::At(top(self.a));
-        }
-        Found::Nothing
+        None
     }
 
     // The lowest mark.
-    pub fn lowest(self) -> Found
+    pub fn lowest(self) -> Option<u8>
         ensures { result ≡ lowest_of (marked self) 256 }
     {
-        if self.a != 0 {
-            return Found::At(bottom(self.a));
+        for k in 0..4 {
+            if self.words[k] != 0 {
+                return Some(64 * k as u8 + bottom(self.words[k]));
+            }
         }
-        if self.b != 0 {
-            return Found::At(64 + bottom(self.b));
-        }
-        if self.c != 0 {
-            return Found::At(128 + bottom(self.c));
-        }
-        if self.d != 0 {
-            return Found::At(192 + bottom(self.d));
-        }
-        Found::Nothing
+        None
     }
 
     // How many marks are set.
     pub fn ones(self) -> u16
         ensures { result ≡ count_below 256 (marked self) }
     {
-        let low = ones_in(self.a) + ones_in(self.b);
-        let high = ones_in(self.c) + ones_in(self.d);
+        let low = ones_in(self.words[0]) + ones_in(self.words[1]);
+        let high = ones_in(self.words[2]) + ones_in(self.words[3]);
         low + high
     }
 }

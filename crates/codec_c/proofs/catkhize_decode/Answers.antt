@@ -6,7 +6,9 @@ use Prim.Native.Nat.{ℕ, ◌≤◌}
 use lib.ListN.{length}
 use Rattle.tsar.specs.Rows.{Passed, start, skip, stop}
 use Rattle.tsar.specs.Reading.{told_by}
-use Rattle.tsar.specs.declared.decode.DecodeAnswer.{DecodeAnswer}
+use Rattle.std.specs.Prelude.{Result}
+use Rattle.tsar.specs.declared.DecodedSegment.{DecodedSegment}
+use Rattle.tsar.specs.declared.Error.{Error}
 use Rattle.codec_c.specs.Codes.{short}
 use Rattle.codec_c.specs.Calls.{decode_call, decode_gives, decode_tests}
 use Rattle.codec_c.specs.Laws.{decode_refused, decode_passed}
@@ -21,18 +23,18 @@ returns-then-answer-lt-PART_OCTETS c =
     let x = c.args in
     decode_refused x.octets.now x.version x.answer.now short (stop short (start (decode_tests x.answer.now)) (lt-ltb _ _ c.if-answer-lt-PART_OCTETS.true))
 
-pub returns-in-Refused : goal.returns-in-Refused
-returns-in-Refused c =
+pub returns-in-Err : goal.returns-in-Err
+returns-in-Err c =
     let x = c.args in
     let d = c.decode_segment in
     ap (λ (n : ℕ). decode_call n x.answer.now) c.error_code.ensures
-    ∙ ap (λ (r : DecodeAnswer). decode_gives (told_by r) x.answer.now) (sym c.in-Refused.is)
+    ∙ ap (λ (r : Result DecodedSegment Error). decode_gives (told_by r) x.answer.now) (sym c.in-Err.is)
     ∙ decode_passed x.octets.now x.version x.answer.now (told_by d.result) (passed_1 x.answer.now c.if-answer-lt-PART_OCTETS.false).rest d.ensures
 
-pub returns-in-Decoded : goal.returns-in-Decoded
-returns-in-Decoded c =
+pub returns-in-Ok : goal.returns-in-Ok
+returns-in-Ok c =
     let x = c.args in
     let d = c.decode_segment in
     ap (decode_call 0) c.put_part.ensures
-    ∙ ap (λ (r : DecodeAnswer). decode_gives (told_by r) x.answer.now) (sym c.in-Decoded.is)
+    ∙ ap (λ (r : Result DecodedSegment Error). decode_gives (told_by r) x.answer.now) (sym c.in-Ok.is)
     ∙ decode_passed x.octets.now x.version x.answer.now (told_by d.result) (passed_1 x.answer.now c.if-answer-lt-PART_OCTETS.false).rest d.ensures

@@ -8,6 +8,7 @@ use native.Mathlib.Omega.{arith}
 use Prim.Native.Nat.{ℕ, ◌≤◌}
 use lib.ListN.{length}
 use Rattle.tsar.specs.Rows.{Passed, start, skip, stop}
+use Rattle.image.proofs.Read.{read_some, read_none}
 use Rattle.codec_c.specs.Codes.{short, misspelled}
 use Rattle.codec_c.specs.Calls.{encode_tests}
 use Rattle.codec_c.specs.Laws.{encode_refused, encode_passed}
@@ -26,18 +27,18 @@ returns-then-answer-lt-WRITTEN_OCTETS c =
     encode_refused x.segment.now x.«data».now x.version x.output.now x.answer.now short
     (stop short (passed_1 x.segment.now x.answer.now (omega arith)) (lt-ltb _ _ c.if-answer-lt-WRITTEN_OCTETS.true))
 
-pub returns-then-not-read : goal.returns-then-not-read
-returns-then-not-read c =
+pub returns-in_default : goal.returns-in_default
+returns-in_default c =
     let x = c.args in
     encode_refused x.segment.now x.«data».now x.version x.output.now x.answer.now misspelled
     (stop misspelled (passed_2 x.segment.now x.answer.now (omega arith) c.if-answer-lt-WRITTEN_OCTETS.false)
-    (ap not (sym c.get_segment-read.ensures.0) ∙ c.if-not-read.true))
+    (ap not (read_none _ _ (sym c.get_segment.ensures ∙ c.in_default.is))))
 
 pub returns : goal.returns
 returns c =
     let x = c.args in
-    let g = c.get_segment-read in
+    let g = read_some _ _ _ (sym c.get_segment.ensures ∙ c.in-Some.is) in
     c.encode_into.ensures
-    ∙ encode_passed x.segment.now x.«data».now x.version x.output.now x.answer.now g.result.segment
-    (skip (passed_2 x.segment.now x.answer.now (omega arith) c.if-answer-lt-WRITTEN_OCTETS.false) (ap not (sym g.ensures.0) ∙ c.if-not-read.false)).rest
-    g.ensures.1
+    ∙ encode_passed x.segment.now x.«data».now x.version x.output.now x.answer.now c.in-Some.segment
+    (skip (passed_2 x.segment.now x.answer.now (omega arith) c.if-answer-lt-WRITTEN_OCTETS.false) (ap not g.0)).rest
+    (sym g.1)

@@ -11,7 +11,7 @@ pub returns : goal.returns
 returns c =
     let x = c.args in
     let h = c.put_head in
-    let n = c.put64 in
-    c.put.ensures
+    let n = c.put in
+    c.put-2.ensures
     ∙ ap (sets x.answer.now 0)
     (part_spelled (replicate 31 0) h.new.dst n.new.dst x.head x.number (length-replicate {A = ℕ} 31 0) h.ensures.1 h.ensures.0 n.ensures.0)

@@ -5,8 +5,8 @@ use Rattle.image_link.proofs.get_marks.Goals as goal
 pub returns : goal.returns
 unfolding marks_of
 returns c =
-    let a = c.number64.ensures in
-    let b = c.number64-2.ensures in
-    let d = c.number64-3.ensures in
-    let e = c.number64-4.ensures in
+    let a = c.read.ensures in
+    let b = c.read-2.ensures in
+    let d = c.read-3.ensures in
+    let e = c.read-4.ensures in
     (rw (a.reads, b.reads, d.reads, e.reads), marks_spells c.args.l.now c.requires a.passes b.passes d.passes e.passes)

@@ -5,5 +5,5 @@ use Rattle.image_link.proofs.get_peer.Goals as goal
 pub returns : goal.returns
 unfolding peer_of
 returns c =
-    let n = c.number64-value.ensures in
+    let n = c.read.ensures in
     (rw n.reads, peer_spells c.args.l.now c.requires n.passes)

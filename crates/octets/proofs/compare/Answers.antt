@@ -1,57 +1,26 @@
--- `octets::compare` meets its contract. The loop's invariant: the two are as long, and their first i octets are the same list. So the first octet
--- that differs tells them apart and is the last that is looked at, and where none does they are the same list. Assumes nothing.
-use Prim.Native.Nat.{ℕ, ◌+◌}
-use mathlib.Core.Path.{◌≡◌, sym, ap, ap₂, ◌∙◌}
-use mathlib.Core.List.{List, [], ◌∷◌, ◌++◌}
-use native.Mathlib.Numerals.{add-one}
-use native.Mathlib.Omega.{arith}
-use borrow.Author.Rules.{rules}
-use lib.ListN.{length, take, get_or}
-use lib.Seq.{take_all, take-suc}
-use Rattle.octets.specs.Octets.{same_eq, same_ne}
-use Rattle.octets.specs.Compare.{looked_at}
-use Rattle.octets.proofs.Looked.{looked_none, looked_same, looked_other}
+-- `octets::compare` meets its contract: `position` finds the first pair that differs. Assumes nothing.
+use Rattle.std.proofs.Common.{◌≡◌, arith, rules, tests}
+use Rattle.std.proofs.lemmas.Iterator.{YieldsList-from_slice, YieldsList-from_zip}
+use Rattle.std.proofs.lemmas.Iterator.Search.{position_from_yields_List}
+use Rattle.std.specs.List.{zip, position}
+use Rattle.octets.specs.Octets.{same_ne}
+use Rattle.octets.proofs.Looked.{differs, compared_first, looked_none}
 use Rattle.octets.proofs.compare.Goals as goal
+use Rattle.octets.proofs.compare.Goals.{After-position}
 
-pub returns-then-n-b : goal.returns-then-n-b
-returns-then-n-b c =
-    let x = c.args in
-    let apart : length x.a.now ≡ length x.b.now → ⊥ = λ e. omega (arith, e, c.if-n-b.true) in
-    λ k. record {
-      same = sym (same_ne x.a.now x.b.now (λ e. apart (ap length e))) k;
-      looked = sym (looked_none x.a.now x.b.now apart) k;
-    }
+found : (c : After-position) → c.position.result ≡ position differs (zip c.args.a.now c.args.b.now)
+found c =
+    position_from_yields_List differs c.position.new.self _ _ c.position.ensures.ran
+    (YieldsList-from_zip (YieldsList-from_slice {s = c.zip.result.a} c.args.a.now cc) (YieldsList-from_slice {s = c.zip.result.b} c.args.b.now cc))
+    (λ x b q k. search (rules, tests))
 
-pub returns-then-a-i : goal.returns-then-a-i
-returns-then-a-i c =
-    let x = c.args in
-    let i = c.loop-i.i in
-    let v = c.loop-i.invariant in
-    let far : looked_at x.a.now x.b.now ≡ i + 1 =
-    looked_other x.a.now x.b.now i v.1 (omega arith) v.2 c.if-a-i.true ∙ sym (add-one i)
-    in
-    λ k. record {
-      same = sym (same_ne x.a.now x.b.now (λ e. c.if-a-i.true (ap (λ (l : List ℕ). get_or l i 0) e))) k;
-      looked = sym far k;
-    }
+pub returns-then-a-b : goal.returns-then-a-b
+returns-then-a-b c = grind (arith, same_ne, looked_none)
 
-pub loop-i-preserved : goal.loop-i-preserved
-loop-i-preserved c =
-    let x = c.args in
-    let i = c.loop-i.i in
-    let v = c.loop-i.invariant in
-    let more : take i x.a.now ++ (get_or x.a.now i 0 ∷ []) ≡ take i x.b.now ++ (get_or x.b.now i 0 ∷ []) =
-    ap₂ {C = List ℕ} (λ (l : List ℕ) (k : ℕ). l ++ (k ∷ [])) v.2 c.if-a-i.false in
-    (search rules, v.1, rw add-one (take-suc x.a.now i 0 (omega arith) ∙ more ∙ sym (take-suc x.b.now i 0 (omega arith))))
+pub returns-in-Some : goal.returns-in-Some
+returns-in-Some c =
+    grind (arith, compared_first c.args.a.now c.args.b.now c.position.result (found (goal.at.returns-in-Some c).After-position))
 
-pub returns : goal.returns
-returns c =
-    let x = c.args in
-    let i = c.loop-i.i in
-    let v = c.loop-i.invariant in
-    let all : x.a.now ≡ x.b.now = sym (take_all i x.a.now (omega arith)) ∙ v.2 ∙ take_all i x.b.now (omega arith) in
-    let end : length x.a.now ≡ i = omega arith in
-    λ k. record {
-      same = sym (same_eq x.a.now x.b.now all) k;
-      looked = sym (looked_same x.a.now x.b.now all ∙ end) k;
-    }
+pub returns-in-None : goal.returns-in-None
+returns-in-None c =
+    grind (arith, compared_first c.args.a.now c.args.b.now c.position.result (found (goal.at.returns-in-None c).After-position))

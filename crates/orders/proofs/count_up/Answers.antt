@@ -4,7 +4,7 @@ use mathlib.Core.Path.{◌≡◌, ap, ◌∙◌}
 use mathlib.Core.List.{List, ◌++◌, append-nil}
 use native.Mathlib.Numerals.{add-one}
 use native.Mathlib.Omega.{arith}
-use lib.ListN.{length, set, drop, length-set}
+use lib.ListN.{length, set, drop}
 use lib.Seq.{drop-length}
 use Rattle.orders.specs.Orders.{count_from}
 use Rattle.orders.proofs.Steps.{count_more}
@@ -13,15 +13,11 @@ use Rattle.orders.proofs.count_up.Goals as goal
 pub loop-i-preserved : goal.loop-i-preserved
 loop-i-preserved c =
     let l = c.loop-i in
-    let p = c.args.places.now in
-    (omega arith, length-set l.places l.i l.i ∙ l.invariant.1, ap (λ (x : List ℕ). set x l.i l.i) l.invariant.2 ∙ rw add-one (count_more p l.i (omega arith)))
-
-pub shape_of-places : goal.shape_of-places
-shape_of-places c = c.loop-i.invariant.1
+    ap (λ (x : List ℕ). set x l.i l.i) l.invariant ∙ rw add-one (count_more c.args.places.now l.i (omega arith))
 
 pub returns : goal.returns
 returns c =
     let l = c.loop-i in
     let p = c.args.places.now in
     let e : l.i ≡ length p = omega arith in
-    l.invariant.2 ∙ ap (λ (k : ℕ). count_from 0 k ++ drop k p) e ∙ ap (λ (r : List ℕ). count_from 0 (length p) ++ r) (drop-length p) ∙ append-nil (count_from 0 (length p))
+    l.invariant ∙ ap (λ (k : ℕ). count_from 0 k ++ drop k p) e ∙ ap (λ (r : List ℕ). count_from 0 (length p) ++ r) (drop-length p) ∙ append-nil (count_from 0 (length p))

@@ -1,15 +1,9 @@
--- `plan_c::catkhize_plan_even` meets its contract: what `plan_even` gives for the window of that number, through `give_planning`. Assumes nothing.
-use mathlib.Core.Path.{ap, ◌∙◌}
-use lib.ListN.{length}
-use Rattle.tsar.specs.declared.AcknowledgmentWindow.{AcknowledgmentWindow}
-use Rattle.segmentation.specs.Plan.{Planning, even_message}
-use Rattle.plan_c.specs.Calls.{planning_call}
+-- `plan_c::catkhize_plan_even` meets its contract: `give_planning`, by `even_message`. Assumes nothing.
+use Rattle.std.specs.Prelude.{length}
+use Rattle.std.proofs.Common.{rules}
+use Rattle.segmentation.specs.Plan.{even_message}
+use Rattle.image.specs.Cases.{window_of}
 use Rattle.plan_c.proofs.catkhize_plan_even.Goals as goal
 
 pub returns : goal.returns
-returns c =
-    let x = c.args in
-    c.give_planning.ensures
-    ∙ ap (λ (p : Planning). planning_call p x.window x.plan.now)
-    (c.plan_even-given.ensures
-    ∙ ap (λ (w : AcknowledgmentWindow). even_message (length x.message.now) x.budget x.transaction w x.version x.ceiling) c.window_of.ensures)
+returns c = let x = c.args in c.give_planning.ensures (even_message (length x.message.now) x.budget x.transaction (window_of x.window) x.version x.ceiling) (λ r p. search rules)

@@ -1,19 +1,16 @@
--- `plan_c::put_checked` meets its contract: nothing is written beside a refusal, and else `put_frozen` writes the plan that was accepted. Assumes nothing.
-use mathlib.Core.Path.{sym, ap, ◌∙◌}
-use Prim.Native.Nat.{ℕ}
-use Rattle.segmentation.specs.Frozen.{answer_by}
-use Rattle.segmentation.specs.declared.FrozenAnswer.{FrozenAnswer}
-use Rattle.plan_c.specs.Calls.{plan_call, frozen_gives}
+-- `plan_c::put_checked` meets its contract: a plan that is accepted is put, which its octets then spell. Assumes nothing.
+use Rattle.std.specs.Prelude.{Result}
+use Rattle.std.proofs.Common.{sym, ◌∙◌}
+use Rattle.std.proofs.Math.Path.{ap}
+use Rattle.sender.specs.declared.Plan.{Plan}
+use Rattle.plan_c.specs.Calls.{plan_written, frozen_gives, refused_by}
+use Rattle.plan_c.specs.Laws.{writes}
 use Rattle.plan_c.proofs.put_checked.Goals as goal
 
-pub returns-in-Refused : goal.returns-in-Refused
-returns-in-Refused c =
-    let x = c.args in
-    ap (λ (n : ℕ). plan_call n x.plan.now) c.planning_code.ensures
-    ∙ ap (λ (a : FrozenAnswer). frozen_gives (answer_by a) x.checked.plan x.plan.now) (sym c.in-Refused.is)
-
-pub returns-in-Accepted : goal.returns-in-Accepted
-returns-in-Accepted c =
-    let x = c.args in
-    c.put_frozen.ensures
-    ∙ ap (λ (a : FrozenAnswer). frozen_gives (answer_by a) x.checked.plan x.plan.now) (sym c.in-Accepted.is)
+pub returns-in-Ok : goal.returns-in-Ok
+returns-in-Ok g c =
+    let plan = c.args.plan.now in
+    let put = c.put_plan.ensures in
+    writes plan _ _ c.requires put.1 put.0
+    ∙ ap (λ (p : Plan). plan_written p plan) c.frozen.ensures
+    ∙ ap (λ (a : Result Unit g.row.E.Denot). frozen_gives (refused_by g.E.Refuses.number a) c.args.checked.plan plan) (sym c.in-Ok.is)

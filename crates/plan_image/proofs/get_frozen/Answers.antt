@@ -1,21 +1,23 @@
 -- `plan_image::get_frozen` meets its contract: its test is that of the front and that of the heads. Assumes nothing.
-use mathlib.Core.Path.{sym, ap, ap₂, ◌∙◌}
-use mathlib.Core.Bool.{Bool, ◌&&◌}
-use mathlib.Core.List.{List}
-use Rattle.tsar.specs.declared.SegmentHead.{SegmentHead}
-use Rattle.segmentation.specs.declared.FrozenMessage.{FrozenMessage}
+use Rattle.std.specs.Prelude.{drop, refl}
+use Rattle.std.proofs.Common.{sym, ◌∙◌}
 use Rattle.image.specs.Spelling.{rest_of}
-use Rattle.plan_image.specs.declared.Front.{Front}
-use Rattle.plan_image.specs.Frozen.{heads_of, heads_ok, frozen_from, frozen_of, frozen_spells}
+use Rattle.image.proofs.Read.{first_none, second_none, both_some}
+use Rattle.plan_image.specs.Frozen.{front_of, heads_of, frozen_from, frozen_of, frozen_spells}
 use Rattle.plan_image.proofs.get_frozen.Goals as goal
+
+pub returns-in_err-front : goal.returns-in_err-front
+returns-in_err-front c =
+    let l = c.args.l.now in
+    first_none _ _ _ (frozen_spells l c.requires) (front_of l) (heads_of (drop 25 l)) (frozen_of l) _ (sym c.get_front.ensures ∙ c.in_err-front.was) c.from_residual.ensures
+
+pub returns-in_err-heads : goal.returns-in_err-heads
+returns-in_err-heads c =
+    let l = c.args.l.now in
+    second_none _ _ _ (frozen_spells l c.requires) (front_of l) (heads_of (drop 25 l)) (frozen_of l) _ (rw (rest_of 25 l) at (sym c.get_heads.ensures ∙ c.in_err-heads.was)) c.from_residual-in_err-heads.ensures
 
 pub returns : goal.returns
 unfolding frozen_of
 returns c =
     let l = c.args.l.now in
-    let f = c.get_front-read.ensures in
-    let h = c.get_heads-rest.ensures in (
-      c.both-ok.ensures ∙ ap₂ {C = Bool} (λ (a b : Bool). a && b) f.0 (h.0 ∙ ap heads_ok (rest_of 25 l))
-          ∙ sym (frozen_spells l c.requires),
-      ap₂ {C = FrozenMessage} (λ (y : Front) (z : List SegmentHead). frozen_from y z) f.1 (h.1 ∙ ap heads_of (rest_of 25 l)),
-    )
+    both_some _ _ _ (frozen_spells l c.requires) (front_of l) (heads_of (drop 25 l)) (frozen_of l) _ _ frozen_from (sym c.get_front.ensures ∙ c.in_ok-front.was) (rw (rest_of 25 l) at (sym c.get_heads.ensures ∙ c.in_ok-heads.was)) refl

@@ -13,7 +13,7 @@ pub returns : goal.returns
 unfolding form_image
 returns c =
     let x = c.args in
-    let o = c.put_octet in
+    let o = c.put in
     let n = c.form_number.ensures in
     let p = c.put_planned in
     let e = c.planned_in.ensures in (

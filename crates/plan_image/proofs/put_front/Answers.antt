@@ -11,5 +11,5 @@ unfolding front_image
 returns c =
     let x = c.args in
     let p = c.put_row.ensures in
-    let e = c.front_row.ensures in
+    let e = c.from.ensures in
     (p.0 ∙ ap (λ (r : Row). sets x.dst.now x.at (row_image r)) e, subst RowFits e p.1)

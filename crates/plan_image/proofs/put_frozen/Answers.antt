@@ -12,7 +12,7 @@ unfolding frozen_image
 returns c =
     let x = c.args in
     let p = c.put_front in
-    let e = c.front_in.ensures in
+    let e = c.from.ensures in
     let h = c.put_heads in (
       put_next x.dst.now x.at (front_image (front_in x.f)) (heads_image x.f.heads) p.new.dst h.new.dst (x.at + 25) 25
           (p.ensures.0 ∙ ap (λ (y : Front). sets x.dst.now x.at (front_image y)) e)

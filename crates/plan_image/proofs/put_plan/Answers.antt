@@ -9,6 +9,6 @@ pub returns : goal.returns
 unfolding plan_image
 returns c =
     let x = c.args in
-    let o = c.put_octet in
+    let o = c.put in
     let p = c.put_body in
     (put_next x.dst.now 0 (1 ∷ []) (body_image x.plan) o.new.dst p.new.dst 1 1 o.ensures refl refl p.ensures.0, p.ensures.1)

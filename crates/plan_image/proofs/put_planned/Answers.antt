@@ -11,10 +11,10 @@ use Rattle.plan_image.proofs.put_planned.Goals as goal
 pub returns : goal.returns
 returns c =
     let x = c.args in
-    let w = c.window_number.ensures in
-    let a = c.put64 in
-    let b = c.put64-2 in
-    let o = c.put in
+    let w = c.from.ensures in
+    let a = c.put in
+    let b = c.put-2 in
+    let o = c.put-3 in
     let e = c.capacities.ensures in
     let r = c.put_row in (
       planned_put x.dst.now a.new.dst b.new.dst o.new.dst r.new.dst x.at x.p a.ensures.0 b.ensures.0

@@ -6,7 +6,7 @@ use Rattle.plan_image.proofs.read_planned.Goals as goal
 pub returns : goal.returns
 returns c =
     let x = c.args in
-    let a = c.number64-octets in
-    let b = c.number64-budget in
-    let r = c.read_row-row in
+    let a = c.read in
+    let b = c.read-2 in
+    let r = c.read_row in
     c.planned_from.ensures ∙ planned_read x.l.now x.at a.result b.result r.result a.ensures.reads b.ensures.reads r.ensures

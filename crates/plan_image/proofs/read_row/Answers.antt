@@ -5,7 +5,7 @@ use Rattle.plan_image.proofs.read_row.Goals as goal
 pub returns : goal.returns
 returns c =
     let x = c.args in
-    let a = c.number64-first in
-    let b = c.number64-second in
-    let d = c.number64-third in
+    let a = c.read in
+    let b = c.read-2 in
+    let d = c.read-3 in
     row_read x.l.now x.at a.result b.result d.result a.ensures.reads b.ensures.reads d.ensures.reads

@@ -3,10 +3,10 @@ use Rattle.image.specs.Numbers.{spell}
 use Rattle.receiver_answers.specs.Answers.{message_image}
 use Rattle.receiver_answers.proofs.message_octets.Goals as goal
 
-pub returns-in-Nothing : goal.returns-in-Nothing
+pub returns-in-None : goal.returns-in-None
 unfolding message_image
-returns-in-Nothing c = rw c.in-Nothing.is
+returns-in-None c = rw c.in-None.is
 
-pub returns-in-Octets : goal.returns-in-Octets
+pub returns-in-Some : goal.returns-in-Some
 unfolding message_image spell
-returns-in-Octets c = rw (c.octets64-n.ensures.0, c.in-Octets.is)
+returns-in-Some c = rw (c.octets-n.ensures.octets, c.in-Some.is)

@@ -2,8 +2,8 @@
 use mathlib.Core.Path.{refl}
 use Rattle.receiver_answers.proofs.put_advance.Goals as goal
 
-pub returns-in-Refused : goal.returns-in-Refused
-returns-in-Refused c = rw c.in-Refused.is (c.error_code.ensures, refl)
+pub returns-in-Err : goal.returns-in-Err
+returns-in-Err c = rw c.in-Err.is (c.error_code.ensures, refl)
 
-pub returns-in-Advanced : goal.returns-in-Advanced
-returns-in-Advanced c = rw c.in-Advanced.is (refl, c.put_reply.ensures.0)
+pub returns-in-Ok : goal.returns-in-Ok
+returns-in-Ok c = rw c.in-Ok.is (refl, c.put_reply.ensures.0)

@@ -3,7 +3,6 @@ use mathlib.Core.Path.{refl, ap, ◌∙◌}
 use Prim.Native.Nat.{◌+◌}
 use lib.Seq.{sets}
 use Rattle.image.specs.Spelling.{put_next}
-use Rattle.receiver.specs.Says.{reply_says, message_says}
 use Rattle.receiver_answers.specs.Answers.{reply_image, message_image, reception_image}
 use Rattle.receiver_answers.proofs.put_received.Goals as goal
 
@@ -12,5 +11,5 @@ unfolding reception_image
 returns c =
     let x = c.args in
     let p = c.put_reply.ensures in
-    put_next x.dst.now x.at (reply_image (reply_says x.x.response)) (message_image (message_says x.x.message)) _ _ (x.at + 46) 46 p.0 p.1 refl
-    (c.put.ensures ∙ ap (sets _ _) c.message_octets-m.ensures)
+    put_next x.dst.now x.at (reply_image x.x.response) (message_image x.x.message) _ _ (x.at + 46) 46 p.0 p.1 refl
+    (c.put.ensures ∙ ap (sets _ _) c.message_octets.ensures)

@@ -1,24 +1,32 @@
 -- `receiver_image::get_receiver` meets its contract: the test of a receiver is that of its head and of each slot, since octets always spell lengths.
 -- Assumes nothing.
-use mathlib.Core.Path.{◌≡◌, sym, ap, ap₂, ◌∙◌}
-use mathlib.Core.Bool.{Bool, true, ◌&&◌}
-use Rattle.image.specs.Spelling.{spells, rest_of}
-use Rattle.image.specs.Numbers.{spell}
-use Rattle.image.specs.Segments.{kind_ok}
-use Rattle.image.specs.Many.{spell_all, all_pass}
-use Rattle.receiver_image.specs.Images.{record_of, lengths_of, image_spells}
+use Rattle.std.specs.Prelude.{List, drop}
+use Rattle.std.proofs.Common.{sym, ◌∙◌}
+use Rattle.receiver.specs.declared.Slot.{Slot}
+use Rattle.image.specs.Spelling.{rest_of}
+use Rattle.image.proofs.Read.{first_none, second_none, both_some}
+use Rattle.receiver_image.specs.declared.Head.{Head}
+use Rattle.receiver_image.specs.Heads.{head_of}
+use Rattle.receiver_image.specs.Images.{record_of, receiver_of, slots_of, image_spells}
 use Rattle.receiver_image.proofs.get_receiver.Goals as goal
+
+pub returns-in_err-head : goal.returns-in_err-head
+returns-in_err-head c =
+    let l = c.args.l.now in
+    let n = rw (rest_of 91 l) at c.get_lengths-lengths.ensures in
+    first_none _ _ _ (image_spells l c.requires n.1) (head_of l) (slots_of (drop 603 l)) (record_of l) _ (sym c.get_head.ensures ∙ c.in_err-head.was) c.from_residual.ensures
+
+pub returns-in_err-slots : goal.returns-in_err-slots
+returns-in_err-slots c =
+    let l = c.args.l.now in
+    let n = rw (rest_of 91 l) at c.get_lengths-lengths.ensures in
+    second_none _ _ _ (image_spells l c.requires n.1) (head_of l) (slots_of (drop 603 l)) (record_of l) _ (rw (rest_of 603 l) at (sym c.get_slots.ensures ∙ c.in_err-slots.was))
+    c.from_residual-in_err-slots.ensures
 
 pub returns : goal.returns
 unfolding record_of
 returns c =
     let l = c.args.l.now in
-    let h = c.get_head-read.ensures in
-    let n = c.get_lengths-lengths.ensures in
-    let s = c.get_slots-behind.ensures in
-    let a = rest_of 91 l in
-    let b = rest_of 603 l in
-    let p : spells (spell_all (spell 2)) lengths_of 512 _ ≡ true = ap (spells (spell_all (spell 2)) lengths_of 512) (sym a) ∙ n.1 in (
-      c.both.ensures ∙ ap₂ (λ (x y : Bool). x && y) h.0 (s.0 ∙ ap (all_pass kind_ok 13 256) b) ∙ sym (image_spells l c.requires p),
-      rw (h.1, n.0, s.1, a, b),
-    )
+    let n = rw (rest_of 91 l) at c.get_lengths-lengths.ensures in
+    both_some _ _ _ (image_spells l c.requires n.1) (head_of l) (slots_of (drop 603 l)) (record_of l) _ _ (λ (h : Head) (s : List Slot). receiver_of h c.get_lengths-lengths.result s)
+    (sym c.get_head.ensures ∙ c.in_ok-head.was) (rw (rest_of 603 l) at (sym c.get_slots.ensures ∙ c.in_ok-slots.was)) (rw n.0)

@@ -1,16 +1,15 @@
--- `sender_c::put_made` meets its contract: a refusal writes nothing, by `made_none`, and else the sender is put, by `made_put`. Assumes nothing.
-use mathlib.Core.Path.{sym, ◌∙◌}
-use Rattle.sender.specs.Says.{sent}
-use Rattle.sender_c.specs.Laws.{made_put, made_none}
+-- `sender_c::put_made` meets its contract: a refusal writes nothing, and else the sender is put, by `made_put`. Assumes nothing.
+use Rattle.std.specs.Prelude.{Result}
+use Rattle.std.proofs.Math.Path.{ap}
+use Rattle.sender.specs.declared.SenderError.{SenderError}
+use Rattle.sender.specs.declared.SenderState.{SenderState}
+use Rattle.sender.specs.Says.{sender_says, sent}
+use Rattle.sender_answers.specs.Answers.{is_refused}
+use Rattle.sender_c.specs.Laws.{made_put}
 use Rattle.sender_c.proofs.put_made.Goals as goal
 
-pub returns-then-is_refused : goal.returns-then-is_refused
-returns-then-is_refused c =
-    let x = c.args in
-    made_none x.«record».now (sent x.given) c.answer_code.result (sym c.is_refused.ensures ∙ c.if-is_refused.true) c.answer_code.ensures
-
-pub returns : goal.returns
-returns c =
+pub returns-in-Ok : goal.returns-in-Ok
+returns-in-Ok c =
     let x = c.args in
     let p = c.put_sender in
-    made_put x.«record».now (sent x.given) p.new.dst (sym c.is_refused.ensures ∙ c.if-is_refused.false) p.ensures.0 c.requires p.ensures.1
+    made_put x.«record».now (sent x.given) p.new.dst (ap (λ (a : Result SenderState SenderError). is_refused (sender_says a)) c.in-Ok.is) p.ensures.0 c.requires p.ensures.1

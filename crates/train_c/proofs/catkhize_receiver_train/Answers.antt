@@ -3,13 +3,14 @@
 use borrow.Author.Tests.{lt-ltb, le-ltb}
 use mathlib.Core.Path.{sym, ap, ◌∙◌}
 use mathlib.Core.Bool.{not}
+use Rattle.image.proofs.Read.{read_some, read_none}
 use Rattle.tsar.specs.Rows.{start, skip, stop}
 use Rattle.codec_c.specs.Codes.{short, misspelled, unnamed}
 use Rattle.train_c.specs.Walk.{Train, walked}
 use Rattle.train_c.specs.Calls.{Asked, train_tests}
 use Rattle.train_c.specs.Laws.{train_refused, train_walked, train_done_lem}
 use Rattle.train_c.proofs.catkhize_receiver_train.Goals as goal
-use Rattle.train_c.proofs.catkhize_receiver_train.Goals.{After-walk-end, Else-answer-lt-TRAIN_OCTETS, Else-not-read, Else-protocol-gt-LAST_PROTOCOL, Else-record-lt-RECEIVER_OCTETS, Start}
+use Rattle.train_c.proofs.catkhize_receiver_train.Goals.{After-walk-end, Else-answer-lt-TRAIN_OCTETS, Else-protocol-gt-LAST_PROTOCOL, Else-record-lt-RECEIVER_OCTETS, Start}
 
 -- what a call is asked
 abbrev asked : Start → Asked
@@ -37,16 +38,16 @@ returns-then-record-lt-RECEIVER_OCTETS c = train_refused (asked (goal.at.returns
 pub returns-then-answer-lt-TRAIN_OCTETS : goal.returns-then-answer-lt-TRAIN_OCTETS
 returns-then-answer-lt-TRAIN_OCTETS c = train_refused (asked (goal.at.returns-then-answer-lt-TRAIN_OCTETS c).Start) short (stop short (skip (start (train_tests (asked (goal.at.returns-then-answer-lt-TRAIN_OCTETS c).Start))) (le-ltb _ _ c.if-record-lt-RECEIVER_OCTETS.false)) (lt-ltb _ _ c.if-answer-lt-TRAIN_OCTETS.true))
 
-pub returns-then-not-read : goal.returns-then-not-read
-returns-then-not-read c =
-    train_refused (asked (goal.at.returns-then-not-read c).Start) misspelled (stop short (skip (skip (start (train_tests (asked (goal.at.returns-then-not-read c).Start))) (le-ltb _ _ c.if-record-lt-RECEIVER_OCTETS.false)) (le-ltb _ _ c.if-answer-lt-TRAIN_OCTETS.false)) (ap not (sym c.get_receiver-read.ensures.0) ∙ c.if-not-read.true))
+pub returns-in_default : goal.returns-in_default
+returns-in_default c =
+    train_refused (asked (goal.at.returns-in_default c).Start) misspelled (stop short (skip (skip (start (train_tests (asked (goal.at.returns-in_default c).Start))) (le-ltb _ _ c.if-record-lt-RECEIVER_OCTETS.false)) (le-ltb _ _ c.if-answer-lt-TRAIN_OCTETS.false)) (ap not (read_none _ _ (sym c.get_receiver.ensures ∙ c.in_default.is))))
 
 pub returns-then-protocol-gt-LAST_PROTOCOL : goal.returns-then-protocol-gt-LAST_PROTOCOL
-returns-then-protocol-gt-LAST_PROTOCOL c = train_refused (asked (goal.at.returns-then-protocol-gt-LAST_PROTOCOL c).Start) unnamed (stop short (skip (skip (skip (start (train_tests (asked (goal.at.returns-then-protocol-gt-LAST_PROTOCOL c).Start))) (le-ltb _ _ c.if-record-lt-RECEIVER_OCTETS.false)) (le-ltb _ _ c.if-answer-lt-TRAIN_OCTETS.false)) (ap not (sym c.get_receiver-read.ensures.0) ∙ c.if-not-read.false)) (lt-ltb _ _ c.if-protocol-gt-LAST_PROTOCOL.true))
+returns-then-protocol-gt-LAST_PROTOCOL c = train_refused (asked (goal.at.returns-then-protocol-gt-LAST_PROTOCOL c).Start) unnamed (stop short (skip (skip (skip (start (train_tests (asked (goal.at.returns-then-protocol-gt-LAST_PROTOCOL c).Start))) (le-ltb _ _ c.if-record-lt-RECEIVER_OCTETS.false)) (le-ltb _ _ c.if-answer-lt-TRAIN_OCTETS.false)) (ap not (read_some _ _ _ (sym c.get_receiver.ensures ∙ c.in-Some.is)).0)) (lt-ltb _ _ c.if-protocol-gt-LAST_PROTOCOL.true))
 
 pub returns : goal.returns
 returns c =
     let a = asked (goal.at.returns c).Start in
-    train_done_lem a (ended (goal.at.returns c).After-walk-end) c.put_receiver.new.dst c.put_train.new.answer ((skip (skip (skip (skip (start (train_tests (asked (goal.at.returns c).Start))) (le-ltb _ _ c.if-record-lt-RECEIVER_OCTETS.false)) (le-ltb _ _ c.if-answer-lt-TRAIN_OCTETS.false)) (ap not (sym c.get_receiver-read.ensures.0) ∙ c.if-not-read.false)) (le-ltb _ _ c.if-protocol-gt-LAST_PROTOCOL.false)).rest) c.if-record-lt-RECEIVER_OCTETS.false
-    (train_walked a (ended (goal.at.returns c).After-walk-end) c.get_receiver-read.result.receiver c.protocol_of.result c.get_receiver-read.ensures.1 c.protocol_of.ensures c.walk-end.ensures) c.put_receiver.ensures.1 c.put_receiver.ensures.0
+    train_done_lem a (ended (goal.at.returns c).After-walk-end) c.put_receiver.new.dst c.put_train.new.answer ((skip (skip (skip (skip (start (train_tests (asked (goal.at.returns c).Start))) (le-ltb _ _ c.if-record-lt-RECEIVER_OCTETS.false)) (le-ltb _ _ c.if-answer-lt-TRAIN_OCTETS.false)) (ap not (read_some _ _ _ (sym c.get_receiver.ensures ∙ c.in-Some.is)).0)) (le-ltb _ _ c.if-protocol-gt-LAST_PROTOCOL.false)).rest) c.if-record-lt-RECEIVER_OCTETS.false
+    (train_walked a (ended (goal.at.returns c).After-walk-end) c.in-Some.receiver c.protocol_of.result (sym (read_some _ _ _ (sym c.get_receiver.ensures ∙ c.in-Some.is)).1) c.protocol_of.ensures c.walk-end.ensures) c.put_receiver.ensures.1 c.put_receiver.ensures.0
     c.put_train.ensures

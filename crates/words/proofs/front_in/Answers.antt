@@ -16,21 +16,18 @@ front : (n from k : ℕ) → k ≡ min 64 (n - from) → 2 ^ k - 1 ≡ word_from
 front n from k e = sym (sum_front 64 k (λ j. ltb (from + j) n) (omega arith) (λ j l. lt-ltb (from + j) n (omega arith)) (λ j l m. le-ltb (from + j) n (omega arith)))
 
 -- the shift is the power
-power : (c : Else-k-ge64) → 1 * 2 ^ (c.args.n - c.args.from) % 2 ^ 64 ≡ 2 ^ (c.args.n - c.args.from)
+power : (c : Else-k-ge64) → 1 * 2 ^ c.saturating_sub-k.result % 2 ^ 64 ≡ 2 ^ c.saturating_sub-k.result
 power c =
-    let k = c.args.n - c.args.from in
+    let k = c.saturating_sub-k.result in
     shl_exact 1 k 64 (lit< tt) (omega arith) ∙ one-mul (2 ^ k)
-
-pub returns-then-n-from : goal.returns-then-n-from
-returns-then-n-from c = front c.args.n c.args.from 0 (omega arith)
 
 pub returns-then-k-ge64 : goal.returns-then-k-ge64
 returns-then-k-ge64 c = front c.args.n c.args.from 64 (omega arith)
 
 pub overflow_sub-result : goal.overflow_sub-result
-overflow_sub-result c = rw (power (goal.at.overflow_sub-result c).Else-k-ge64) (pow_pos (c.args.n - c.args.from))
+overflow_sub-result c = rw (power (goal.at.overflow_sub-result c).Else-k-ge64) (pow_pos c.saturating_sub-k.result)
 
 pub returns : goal.returns
 returns c =
     let x = c.args in
-    ap (λ (p : ℕ). p - 1) (power (goal.at.returns c).Else-k-ge64) ∙ front x.n x.from (x.n - x.from) (omega arith)
+    ap (λ (p : ℕ). p - 1) (power (goal.at.returns c).Else-k-ge64) ∙ front x.n x.from c.saturating_sub-k.result (omega arith)

@@ -1,42 +1,31 @@
--- `capture::form::check_words` meets its contract: what follows the check of the word at i is what the forms from i on make of what is left.
-use Rattle.std.proofs.Common.{◌≡◌, ℕ, suc, ◌<◌, List, length, drop, refl, sym, ap, ◌∙◌, arith, rules}
+-- What follows the check of the word at the index is what the forms from there on make of what is left.
+use Rattle.std.proofs.Common.{◌≡◌, suc, drop, Result, Ok, sym, ap, ◌∙◌, rules, arith}
 use Rattle.std.proofs.Math.Numerals.{add-one}
-use Rattle.capture.specs.declared.form.Checked.{Checked}
 use Rattle.capture.specs.declared.form.Form.{Form}
-use Rattle.capture.specs.declared.form.Verdict.{Verdict}
+use Rattle.capture.specs.declared.form.Form.TheVariants as form
+use Rattle.capture.specs.FormLaws.{words_at, any_default}
+use Rattle.capture.specs.declared.form.WordFault.{WordFault}
+use Rattle.capture.specs.Forms.{form_at, check_of, verdict_of, words_check}
 use Rattle.capture.specs.Text.{word, after}
-use Rattle.capture.specs.Forms.{forms, form_at, check_of, verdict_of, words_check}
-use Rattle.capture.specs.FormLaws.{words_at, words_end}
 use Rattle.capture.proofs.form.check_words.Goals as goal
 
--- what follows a check
-rest : List Form → ℕ → List ℕ → Checked → Verdict
-rest fs i t k = verdict_of k i (words_check (drop (suc i) fs) (suc i) (after t))
+pub returns-in_err-map_err : goal.returns-in_err-map_err
+returns-in_err-map_err c =
+    let fs = c.forms-forms.result.now in
+    let l = c.loop-at in
+    let f : c.check_first.result ≡ check_of (form_at fs l.at-counter) (word l.t.now) =
+    c.check_first.ensures ∙ ap (λ (g : Form). check_of g (word l.t.now)) (any_default fs l.at-counter _ form.Number (omega arith)) in
+    let w = words_at fs l.at-counter l.t.now (omega arith) in
+    search rules
 
--- what the check of the word at i makes of what is left, where the check of the form there gave k
-goes : (fs : List Form) (i : ℕ) (t : List ℕ) (f : Form) (k : Checked) (v : Verdict) → i < length fs → f ≡ form_at fs i → k ≡ check_of f (word t) → words_check (drop i fs) i t ≡ v → rest fs i t k ≡ v
-unfolding rest
-goes fs i t f k v lt a b e = ap (rest fs i t) (b ∙ ap (λ (g : Form). check_of g (word t)) a) ∙ sym (words_at fs i t lt) ∙ e
-
-pub loop-i-init : goal.loop-i-init
-loop-i-init c = (c.places-n.ensures, search rules, refl)
-
-pub returns-in-Fault : goal.returns-in-Fault
-unfolding rest
-returns-in-Fault c =
-    let l = c.loop-i in
-    goes (forms c.args.sentence) l.i l.t.now _ _ _ (omega (arith, l.invariant.0)) c.form_at.ensures c.in-Fault.ensures l.invariant.2
-
-pub loop-i-preserved : goal.loop-i-preserved
-unfolding rest
-loop-i-preserved c =
-    let l = c.loop-i in (
-      l.invariant.0,
-      search rules,
-      rw (add-one, c.after-next.ensures) (goes (forms c.args.sentence) l.i l.t.now _ _ _ (omega (arith, l.invariant.0)) c.form_at.ensures c.in-Passed.ensures l.invariant.2),
-    )
-
-pub returns : goal.returns
-returns c =
-    let l = c.loop-i in
-    c.check_end.ensures ∙ sym (words_end (forms c.args.sentence) l.i l.t.now (omega (arith, l.invariant.0))) ∙ l.invariant.2
+pub loop-at-preserved : goal.loop-at-preserved
+loop-at-preserved c =
+    let fs = c.forms-forms.result.now in
+    let l = c.loop-at in
+    let i = l.at-counter in
+    let f : c.check_first.result ≡ check_of (form_at fs i) (word l.t.now) =
+    c.check_first.ensures ∙ ap (λ (g : Form). check_of g (word l.t.now)) (any_default fs i _ form.Number (omega arith)) in
+    let k : c.check_first.result ≡ Ok tt = search rules in
+    rw (add-one, c.after-t.ensures)
+    (ap (λ (r : Result (Unit {0}) WordFault). verdict_of r i (words_check (drop (suc i) fs) (suc i) (after l.t.now))) (sym k ∙ f)
+    ∙ sym (words_at fs i l.t.now (omega arith)) ∙ l.invariant)

@@ -1,31 +1,14 @@
--- `capture::text::run` meets its contract. The loop's invariant: the i characters passed and the run from i on make the whole run. The
--- measure is what is left of the characters. Assumes nothing.
-use mathlib.Core.Path.{◌≡◌, sym, ◌∙◌}
-use native.Mathlib.Numerals.{add-one}
-use native.Mathlib.Omega.{arith}
-use borrow.Author.Rules.{rules}
-use mathlib.Core.Bool.{true, false}
-use lib.ListN.{get_or}
+-- The run ends at the first character that is of another class, or with the list.
+use Rattle.std.proofs.Common.{◌≡◌, ℕ, Option, ap, ◌∙◌, not, length, rules, tests}
+use Rattle.std.specs.Prelude.{position, unwrap_or}
+use Rattle.std.proofs.lemmas.Iterator.{YieldsList-from_slice}
+use Rattle.std.proofs.lemmas.Iterator.Search.{position_from_yields_List}
 use Rattle.capture.specs.Text.{in_class}
-use Rattle.capture.specs.TextLaws.{leading_at, leading_stop, leading_end}
+use Rattle.capture.specs.TextLaws.{leading_position}
 use Rattle.capture.proofs.text.run.Goals as goal
 
-pub returns-then-not-is_in : goal.returns-then-not-is_in
-returns-then-not-is_in c =
-    let x = c.args in
-    let i = c.loop-i.i in
-    let t : in_class x.class (get_or x.s.now i 0) ≡ false = sym c.is_in.ensures ∙ c.if-not-is_in.true in
-    (omega (arith, leading_stop (in_class x.class) x.s.now i (omega arith) t), omega arith)
-
-pub loop-i-preserved : goal.loop-i-preserved
-loop-i-preserved c =
-    let x = c.args in
-    let i = c.loop-i.i in
-    let t : in_class x.class (get_or x.s.now i 0) ≡ true = sym c.is_in.ensures ∙ c.if-not-is_in.false in
-    (search rules, rw add-one (omega (arith, leading_at (in_class x.class) x.s.now i (omega arith) t)))
-
-pub returns : goal.returns
-returns c =
-    let x = c.args in
-    let i = c.loop-i.i in
-    (omega (arith, leading_end (in_class x.class) x.s.now i (omega arith)), omega arith)
+pub returns-clause-value : goal.returns-clause-value
+returns-clause-value c =
+    let e : c.position.result ≡ position (λ x. not (in_class c.args.class x)) c.args.s.now =
+    position_from_yields_List (λ x. not (in_class c.args.class x)) _ _ _ c.position.ensures.ran (YieldsList-from_slice c.args.s.now cc) (λ x b q k. search (rules, tests)) in
+    c.unwrap_or.ensures ∙ ap (λ (o : Option ℕ). unwrap_or o (length c.args.s.now)) e ∙ leading_position (in_class c.args.class) c.args.s.now

@@ -1,10 +1,7 @@
-use Prim.Native.Nat.{◌-◌, ◌≤◌}
-use mathlib.Core.Path.{◌≡◌}
+-- What is left has the word asked for, as many places earlier as words are passed.
+use Rattle.std.proofs.Common.{◌≡◌, ◌-◌}
 use Rattle.capture.specs.Text.{word_at}
 use Rattle.capture.proofs.text.word_at.Given as goal
 
-abbrev pub invariant-loop-k : goal.invariant-loop-k
-invariant-loop-k l = (l.k ≤ l.i) × (word_at l.t (l.i - l.k) ≡ word_at l.s l.i)
-
-abbrev pub decreases-loop-k : goal.decreases-loop-k
-decreases-loop-k l = l.i - l.k
+abbrev pub invariant-loop : goal.invariant-loop
+invariant-loop l = word_at l.t (l.i - l.counter) ≡ word_at l.s l.i

@@ -13,7 +13,7 @@ unfolding head_image
 returns c =
     let x = c.args in
     let s = c.put_segment.ensures in
-    let n = c.put64.ensures in
+    let n = c.put.ensures in
     let e : _ ≡ sets x.dst.now x.at (head_image x.head) =
     n.0 ∙ ap (λ (l : List ℕ). sets l (x.at + 15) (spell 8 x.head.segment_data_length)) s.0
     ∙ sets_then x.dst.now x.at (segment_image x.head.segment) (spell 8 x.head.segment_data_length) 15 (segment_layout.wide x.head.segment s.1) in

@@ -1,9 +1,5 @@
-use Prim.Native.Nat.{◌-◌, ◌≤◌}
 use Rattle.receiver.specs.Steps.{Added, word_length}
 use Rattle.receiver.proofs.faults.scan_some.Given as goal
 
 abbrev pub invariant-loop-j : goal.invariant-loop-j
-invariant-loop-j l = (l.j ≤ 64) × Added (word_length l.marks l.lengths l.from) l.j (record { sum = l.initial.sum; over = l.initial.over }) (record { sum = l.sum; over = l.over })
-
-abbrev pub decreases-loop-j : goal.decreases-loop-j
-decreases-loop-j l = 64 - l.j
+invariant-loop-j l = Added (word_length l.marks l.lengths l.from) l.j l.fn.found l.all

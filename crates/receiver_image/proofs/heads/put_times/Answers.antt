@@ -7,7 +7,7 @@ use Rattle.receiver_image.proofs.heads.put_times.Goals as goal
 pub returns : goal.returns
 returns c =
     let x = c.args in
-    let d = c.deadline_octets-d.ensures in
-    let a = c.put64.ensures in
-    let b = c.put64-2.ensures in
-    (times_put x.dst.now x.at x.p _ _ _ a.0 (c.put.ensures ∙ ap (sets _ _) d.0) b.0, record { stored = a.1; deadline = d.1; last = b.1 })
+    let d = c.deadline_octets.ensures in
+    let a = c.put.ensures in
+    let b = c.put-3.ensures in
+    (times_put x.dst.now x.at x.p _ _ _ a.0 (c.put-2.ensures ∙ ap (sets _ _) d.0) b.0, record { stored = a.1; deadline = d.1; last = b.1 })

@@ -7,4 +7,4 @@ pub returns : goal.returns
 unfolding head_of
 returns c =
     let l = c.args.l.now in
-    rw (c.get_marks-held.ensures.0, rest_of 59 l, c.read_progress-progress.ensures, rest_of 24 l, c.read_terms-terms.ensures, rest_of 1 l)
+    rw (c.get_marks.ensures.0, rest_of 59 l, c.read_progress.ensures, rest_of 24 l, c.read_terms.ensures, rest_of 1 l)

@@ -6,5 +6,5 @@ use Rattle.receiver_image.proofs.heads.read_progress.Goals as goal
 pub returns : goal.returns
 returns c =
     let l = c.args.l.now in
-    rw (c.number64-last.ensures.reads, c.deadline_of-deadline.ensures, c.number64.ensures.reads, c.number64-stored.ensures.reads, c.length_of-message_length.ensures, c.number16.ensures.reads, c.end_of-end_sequence.ensures, c.optional_of-services.ensures, c.state_of-state.ensures)
+    rw (c.read-3.ensures.reads, c.deadline_of.ensures, c.read-2.ensures.reads, c.read-stored.ensures.reads, c.length_of.ensures, c.read.ensures.reads, c.end_of.ensures, c.optional_of.ensures, c.state_of.ensures)
     (sym (progress_flat l))

@@ -14,23 +14,22 @@ use Rattle.receiver_image.proofs.slots.get_lengths.Goals as goal
 pub loop-i-init : goal.loop-i-init
 loop-i-init c =
     let x = c.args in
-    (omega arith, length-replicate {A = ℕ} 256 0, read_none (number_of 2) 2 x.l.now (replicate 256 0), λ k h. absurd (omega arith))
+    (length-replicate {A = ℕ} 256 0, read_none (number_of 2) 2 x.l.now (replicate 256 0), λ k h. absurd (omega arith))
 
 pub loop-i-preserved : goal.loop-i-preserved
 loop-i-preserved c =
     let l = c.args.l.now in
     let t = c.loop-i in
-    let n = c.number16 in (
-      omega arith,
-      length-set t.lengths t.i n.result ∙ t.invariant.1,
-      get_turn (number_of 2) 2 l t.lengths t.i n.result (omega arith) t.invariant.2 n.ensures.reads,
-      below_more _ _ t.invariant.3 n.ensures.passes,
+    let n = c.read in (
+      length-set t.n-items t.i n.result ∙ t.invariant.0,
+      get_turn (number_of 2) 2 l t.n-items t.i n.result (omega arith) t.invariant.1 n.ensures.reads,
+      below_more _ _ t.invariant.2 n.ensures.passes,
     )
 
 pub returns : goal.returns
 returns c =
     let l = c.args.l.now in
     let t = c.loop-i in (
-      get_last (number_of 2) 2 256 l t.lengths t.i (omega arith) t.invariant.1 t.invariant.2,
-      all_spells (number_layout 2) 0 256 l (search rules) ∙ pass_all (spells (spell 2) (number_of 2) 2) 2 256 l (λ k h. t.invariant.3 k (omega arith)),
+      get_last (number_of 2) 2 256 l t.n-items t.i (omega arith) t.invariant.0 t.invariant.1,
+      all_spells (number_layout 2) 0 256 l (search rules) ∙ pass_all (spells (spell 2) (number_of 2) 2) 2 256 l (λ k h. t.invariant.2 k (omega arith)),
     )

@@ -1,4 +1,4 @@
-use Prim.Native.Nat.{ℕ, ◌*◌, ◌-◌, ◌≤◌, ◌<◌}
+use Prim.Native.Nat.{ℕ, ◌*◌, ◌<◌}
 use mathlib.Core.Path.{◌≡◌}
 use lib.ListN.{length, take}
 use mathlib.Core.Bool.{true}
@@ -9,7 +9,4 @@ use Rattle.image.specs.Many.{read_all}
 use Rattle.receiver_image.proofs.slots.get_lengths.Given as goal
 
 abbrev pub invariant-loop-i : goal.invariant-loop-i
-invariant-loop-i l = (l.i ≤ 256) × (length l.lengths ≡ 256) × (take l.i l.lengths ≡ read_all (number_of 2) 2 l.i l.l) × ((k : ℕ) → k < l.i → spells (spell 2) (number_of 2) 2 (drop (2 * k) l.l) ≡ true)
-
-abbrev pub decreases-loop-i : goal.decreases-loop-i
-decreases-loop-i l = 256 - l.i
+invariant-loop-i l = (length l.n-items ≡ 256) × (take l.i l.n-items ≡ read_all (number_of 2) 2 l.i l.l) × ((k : ℕ) → k < l.i → spells (spell 2) (number_of 2) 2 (drop (2 * k) l.l) ≡ true)

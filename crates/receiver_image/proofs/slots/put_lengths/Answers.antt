@@ -18,25 +18,24 @@ lengths_256 c = c.well_formed.1.0.1.0.1
 pub loop-i-init : goal.loop-i-init
 loop-i-init c =
     let x = c.args in
-    (omega arith, spell_none (spell 2) x.dst.now 91 x.lengths, λ k h. absurd (omega arith))
+    (spell_none (spell 2) x.dst.now 91 x.lengths, λ k h. absurd (omega arith))
 
 pub loop-i-preserved : goal.loop-i-preserved
 loop-i-preserved c =
     let x = c.args in
     let v = c.loop-i.invariant in
     let i = c.loop-i.i in
-    let p = c.put16.ensures in
+    let p = c.put.ensures in
     let m : length x.lengths ≡ 256 = lengths_256 (goal.at.loop-i-preserved c).Start in (
-      omega arith,
-      p.0 ∙ ap (λ (l : List ℕ). sets l (91 + 2 * i) ((spell 2) (get_or x.lengths i 0))) v.1
+      p.0 ∙ ap (λ (l : List ℕ). sets l (91 + 2 * i) ((spell 2) (get_or x.lengths i 0))) v.0
           ∙ put_turn (spell 2) 2 0 x.dst.now 91 x.lengths i (λ k h. length_spell 2 (get_or x.lengths k 0)) (omega arith),
-      below_more _ _ v.2 p.1,
+      below_more _ _ v.1 p.1,
     )
 
 pub shape_of-dst : goal.shape_of-dst
 shape_of-dst c =
     let x = c.args in
-    ap length c.loop-i.invariant.1 ∙ length-sets x.dst.now 91 (spell_all (spell 2) (take c.loop-i.i x.lengths))
+    ap length c.loop-i.invariant.0 ∙ length-sets x.dst.now 91 (spell_all (spell 2) (take c.loop-i.i x.lengths))
 
 pub returns : goal.returns
 returns c =
@@ -44,6 +43,6 @@ returns c =
     let v = c.loop-i.invariant in
     let i = c.loop-i.i in
     let m : length x.lengths ≡ 256 = lengths_256 (goal.at.returns c).Start in (
-      v.1 ∙ ap (λ (l : List ℕ). sets x.dst.now 91 (spell_all (spell 2) l)) (take_all i x.lengths (omega arith)),
-      record { many = m; each = λ k h. v.2 k (omega arith) },
+      v.0 ∙ ap (λ (l : List ℕ). sets x.dst.now 91 (spell_all (spell 2) l)) (take_all i x.lengths (omega arith)),
+      record { many = m; each = λ k h. v.1 k (omega arith) },
     )

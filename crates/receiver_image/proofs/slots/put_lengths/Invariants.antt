@@ -1,4 +1,4 @@
-use Prim.Native.Nat.{ℕ, ◌-◌, ◌≤◌, ◌<◌}
+use Prim.Native.Nat.{ℕ, ◌<◌}
 use mathlib.Core.Path.{◌≡◌}
 use lib.ListN.{get_or, take}
 use lib.Seq.{sets}
@@ -8,7 +8,4 @@ use Rattle.receiver_image.specs.Images.{LengthFits}
 use Rattle.receiver_image.proofs.slots.put_lengths.Given as goal
 
 abbrev pub invariant-loop-i : goal.invariant-loop-i
-invariant-loop-i l = (l.i ≤ 256) × (l.dst ≡ sets l.initial.dst 91 (spell_all (spell 2) (take l.i l.lengths))) × ((k : ℕ) → k < l.i → LengthFits (get_or l.lengths k 0))
-
-abbrev pub decreases-loop-i : goal.decreases-loop-i
-decreases-loop-i l = 256 - l.i
+invariant-loop-i l = (l.dst ≡ sets l.initial.dst 91 (spell_all (spell 2) (take l.i l.n-items))) × ((k : ℕ) → k < l.i → LengthFits (get_or l.n-items k 0))

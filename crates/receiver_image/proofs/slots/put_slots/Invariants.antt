@@ -1,4 +1,4 @@
-use Prim.Native.Nat.{ℕ, ◌-◌, ◌≤◌, ◌<◌}
+use Prim.Native.Nat.{ℕ, ◌<◌}
 use mathlib.Core.Path.{◌≡◌}
 use lib.ListN.{get_or, take}
 use lib.Seq.{sets}
@@ -8,7 +8,4 @@ use Rattle.receiver_image.specs.Images.{slot_image, SlotFits}
 use Rattle.receiver_image.proofs.slots.put_slots.Given as goal
 
 abbrev pub invariant-loop-i : goal.invariant-loop-i
-invariant-loop-i l = (l.i ≤ 256) × (l.dst ≡ sets l.initial.dst 603 (spell_all slot_image (take l.i l.slots))) × ((k : ℕ) → k < l.i → SlotFits (get_or l.slots k no_slot))
-
-abbrev pub decreases-loop-i : goal.decreases-loop-i
-decreases-loop-i l = 256 - l.i
+invariant-loop-i l = (l.dst ≡ sets l.initial.dst 603 (spell_all slot_image (take l.i l.slot-items))) × ((k : ℕ) → k < l.i → SlotFits (get_or l.slot-items k no_slot))

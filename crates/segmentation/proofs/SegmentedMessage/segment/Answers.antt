@@ -1,44 +1,33 @@
 -- `SegmentedMessage::segment` meets its contract: each test is one of has_segment. Assumes nothing.
-use Prim.Native.Nat.{◌+◌, min}
+use mathlib.Core.Path.{◌≡◌, sym, ap, ap₂, ◌∙◌, subst}
 use native.Mathlib.Omega.{arith}
-use borrow.Author.Tests.{lt-ltb, le-ltb, le-leb, lt-leb}
-use Rattle.segmentation.specs.Plan.{longer, part_start, segment_at}
+use Rattle.std.specs.Prelude.{◌<◌}
+use Rattle.segmentation.specs.Plan.{longer, part_start, planned_head, Sized}
+use Rattle.segmentation.proofs.Parts.{no_segment, with_segment}
 use Rattle.segmentation.proofs.SegmentedMessage.segment.Goals as goal
+use Rattle.segmentation.proofs.SegmentedMessage.segment.Goals.{In_ok-part}
 
-pub returns-then-self-index : goal.returns-then-self-index
-unfolding segment_at
-returns-then-self-index c = simp (le-ltb _ _ c.if-self-index.true)
+-- the part is the one that is asked for
+is_part : (c : In_ok-part) → (c.in_ok-part.part.plan ≡ c.args.self) × (c.in_ok-part.part.index ≡ c.args.index) × (c.args.index < c.args.self.count)
+is_part c = c.in_ok-part.ensures.some
 
-pub returns-then-self-gt-MAX_SEGMENTS : goal.returns-then-self-gt-MAX_SEGMENTS
-unfolding segment_at
-returns-then-self-gt-MAX_SEGMENTS c = simp (lt-ltb _ _ c.if-self-index.false, lt-leb _ _ c.if-self-gt-MAX_SEGMENTS.true)
-
-pub returns-then-self-gt-MAX_SEGMENT_DATA_OCTETS : goal.returns-then-self-gt-MAX_SEGMENT_DATA_OCTETS
-unfolding segment_at
-returns-then-self-gt-MAX_SEGMENT_DATA_OCTETS c = simp (lt-ltb _ _ c.if-self-index.false, le-leb _ _ c.if-self-gt-MAX_SEGMENTS.false, lt-leb _ _ c.if-self-gt-MAX_SEGMENT_DATA_OCTETS.true)
-
-pub returns-then-self-gt-MAX_SEGMENT_DATA_OCTETS-2 : goal.returns-then-self-gt-MAX_SEGMENT_DATA_OCTETS-2
-unfolding segment_at
-returns-then-self-gt-MAX_SEGMENT_DATA_OCTETS-2 c =
-    let p = c.args.self in
-    simp (lt-ltb _ _ c.if-self-index.false, le-leb _ _ c.if-self-gt-MAX_SEGMENTS.false, le-leb _ _ c.if-self-gt-MAX_SEGMENT_DATA_OCTETS.false, lt-leb (p.later_capacity + min 1 (longer p)) 255 (omega (arith, c.if-self-gt-MAX_SEGMENT_DATA_OCTETS-2.true)))
-
-pub returns-then-self-smaller-gt-MAX_SEGMENT_DATA_OCTETS : goal.returns-then-self-smaller-gt-MAX_SEGMENT_DATA_OCTETS
-unfolding segment_at
-returns-then-self-smaller-gt-MAX_SEGMENT_DATA_OCTETS c =
-    let p = c.args.self in
-    simp (lt-ltb _ _ c.if-self-index.false, le-leb _ _ c.if-self-gt-MAX_SEGMENTS.false, le-leb _ _ c.if-self-gt-MAX_SEGMENT_DATA_OCTETS.false, lt-leb (p.later_capacity + min 1 (longer p)) 255 (omega (arith, c.if-self-smaller-gt-MAX_SEGMENT_DATA_OCTETS.true, c.smaller.ensures, c.longer.ensures)))
+pub returns-then-self-min-gt-MAX_SEGMENT_DATA_OCTETS : goal.returns-then-self-min-gt-MAX_SEGMENT_DATA_OCTETS
+returns-then-self-min-gt-MAX_SEGMENT_DATA_OCTETS c =
+    let i = is_part (goal.at.returns-then-self-min-gt-MAX_SEGMENT_DATA_OCTETS c).In_ok-part in
+    let l : c.longer.result ≡ longer c.args.self = c.longer.ensures ∙ ap longer i.0 in
+    sym (no_segment c.args.self c.args.index (λ h. omega arith))
 
 pub returns-then-self-offset : goal.returns-then-self-offset
-unfolding segment_at
 returns-then-self-offset c =
-    let p = c.args.self in
-    let i = c.args.index in
-    simp (lt-ltb _ _ c.if-self-index.false, le-leb _ _ c.if-self-gt-MAX_SEGMENTS.false, le-leb _ _ c.if-self-gt-MAX_SEGMENT_DATA_OCTETS.false, le-leb (p.later_capacity + min 1 (longer p)) 255 (omega (arith, c.if-self-smaller-gt-MAX_SEGMENT_DATA_OCTETS.false, c.smaller.ensures, c.longer.ensures)), lt-leb (part_start p i) p.message_octets (omega (arith, c.if-self-offset.true, c.part_start-offset.ensures)))
+    let i = is_part (goal.at.returns-then-self-offset c).In_ok-part in
+    let s : c.start-offset.result ≡ part_start c.args.self c.args.index = c.start-offset.ensures ∙ ap₂ part_start i.0 i.1 in
+    sym (no_segment c.args.self c.args.index (λ h. omega arith))
 
 pub returns : goal.returns
-unfolding segment_at
 returns c =
-    let p = c.args.self in
-    let i = c.args.index in
-    simp (lt-ltb _ _ c.if-self-index.false, le-leb _ _ c.if-self-gt-MAX_SEGMENTS.false, le-leb _ _ c.if-self-gt-MAX_SEGMENT_DATA_OCTETS.false, le-leb (p.later_capacity + min 1 (longer p)) 255 (omega (arith, c.if-self-smaller-gt-MAX_SEGMENT_DATA_OCTETS.false, c.smaller.ensures, c.longer.ensures)), le-leb (part_start p i) p.message_octets (omega (arith, c.if-self-offset.false, c.part_start-offset.ensures)), c.planned_kind.ensures, c.part_length.ensures, c.part_start-offset.ensures)
+    let i = is_part (goal.at.returns c).In_ok-part in
+    let l : c.longer.result ≡ longer c.args.self = c.longer.ensures ∙ ap longer i.0 in
+    let s : c.start-offset.result ≡ part_start c.args.self c.args.index = c.start-offset.ensures ∙ ap₂ part_start i.0 i.1 in
+    let h : c.head.result ≡ planned_head c.args.self c.args.index = c.head.ensures ∙ ap₂ planned_head i.0 i.1 in
+    let z : Sized c.args.self = subst Sized i.0 c.in_ok-part.part.sized in
+    simp (h, s) (sym (with_segment c.args.self c.args.index (omega arith) (omega arith) (omega arith) (omega arith) (omega arith)))

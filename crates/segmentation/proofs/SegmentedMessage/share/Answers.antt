@@ -1,25 +1,16 @@
--- `SegmentedMessage::share` meets its contract: with no later segment, or nothing behind Begin's octets, the quotient is 0. Assumes nothing.
-use Prim.Native.Nat.{ℕ, ◌-◌, ◌/◌, ◌≤◌}
-use mathlib.Core.Path.{◌≡◌, refl, sym, ap, ◌∙◌}
+-- `SegmentedMessage::share` meets its contract: over no segment the quotient is 0. Assumes nothing.
+use mathlib.Core.Path.{◌≡◌, sym, ap, ap₂, ◌∙◌}
 use native.Mathlib.Omega.{arith}
-use native.Mathlib.Nat.{div-zero, zero-div}
+use native.Mathlib.Nat.{div-zero}
+use Rattle.std.specs.Prelude.{ℕ, ◌/◌, ◌<◌, Option, Some, None}
+use Rattle.std.specs.Option.{SomeIff, unwrap_or}
 use Rattle.segmentation.specs.Plan.{share_of}
 use Rattle.segmentation.proofs.SegmentedMessage.share.Goals as goal
 
-over_none : (r c : ℕ) → c ≤ 1 → r / (c - 1) ≡ 0
-over_none r c h = let e : c - 1 ≡ 0 = omega arith in ap (λ (k : ℕ). r / k) e ∙ div-zero r
-
-of_nothing : (n b k : ℕ) → n ≤ b → (n - b) / k ≡ 0
-of_nothing n b k h = let e : n - b ≡ 0 = omega arith in ap (λ (r : ℕ). r / k) e ∙ zero-div k
-
-pub returns-then-self-le1 : goal.returns-then-self-le1
-unfolding share_of
-returns-then-self-le1 c = sym (over_none _ _ c.if-self-le1.true)
-
-pub returns-then-self : goal.returns-then-self
-unfolding share_of
-returns-then-self c = sym (of_nothing _ _ _ c.if-self.true)
+shared : (o : Option ℕ) (r k : ℕ) → SomeIff o (0 < k) (r / k) → unwrap_or o 0 ≡ r / k
+shared None r k h = let e : k ≡ 0 = omega (arith, h) in sym (ap (λ (x : ℕ). r / x) e ∙ div-zero r)
+shared (Some x) r k h = h.1
 
 pub returns : goal.returns
 unfolding share_of
-returns c = refl
+returns c = c.unwrap_or.ensures ∙ shared _ _ _ c.checked_div.ensures ∙ ap₂ {C = ℕ} ◌/◌ c.saturating_sub-rest.ensures c.saturating_sub-following.ensures

@@ -8,5 +8,5 @@ pub returns : goal.returns
 returns c =
     let x = c.args in
     let a = c.put_current.ensures in
-    let b = c.put64.ensures in
-    (standing_put x.dst.now x.at x.p _ _ _ (c.put.ensures ∙ ap (sets _ _) c.state_octets-a.ensures) a.0 b.0, record { current = a.1; ticket = b.1 })
+    let b = c.put-2.ensures in
+    (standing_put x.dst.now x.at x.p _ _ _ (c.put.ensures ∙ ap (sets _ _) c.state_octets.ensures) a.0 b.0, record { current = a.1; ticket = b.1 })

@@ -7,4 +7,4 @@ pub returns : goal.returns
 unfolding terms_of
 returns c =
     let l = c.args.l.now in
-    rw (c.number64-number.ensures.reads, c.read_protocol-protocol.ensures, rest_of 10 l, c.get_peer-peer.ensures.0)
+    rw (c.read.ensures.reads, c.read_protocol.ensures, rest_of 10 l, c.get_peer.ensures.0)

@@ -1,12 +1,12 @@
 -- `words::Words::and` meets its contract: on each pair of words it is the and of two bits, so on each pair of marks. Assumes nothing.
 use mathlib.Core.Bool.{◌&&◌}
-use native.Mathlib.Omega.{arith}
 use lib.Bits.{bit_and}
+use borrow.Author.Rules.{rules}
 use Rattle.words.proofs.Wordwise.{zip_marks, ands}
 use Rattle.words.proofs.Words.and.Goals as goal
 
 pub returns : goal.returns
 returns c =
     let x = c.args in
-    zip_marks bit_and ◌&&◌ ands x.self x.w (record { a = omega arith; b = omega arith; c = omega arith; d = omega arith })
-    (record { a = omega arith; b = omega arith; c = omega arith; d = omega arith })
+    let f = c.from_fn.ensures.items in
+    zip_marks bit_and ◌&&◌ ands x.self x.w (search rules) (search rules) c.from_fn.result f.long (λ k h. let a = f.at k 0 h in search rules)

@@ -1,36 +1,27 @@
 -- `words::Words::lowest` meets its contract: the words below the first that is not 0 have no mark, and its lowest set bit is the lowest
 -- mark. Assumes nothing.
-use mathlib.Core.Path.{sym, ap, ◌∙◌}
-use native.Mathlib.Nat.{zero-add}
-use lib.Dec.{lit<}
-use Rattle.words.specs.Marks.{marked}
-use Rattle.words.specs.Search.{lowest_none}
-use Rattle.words.specs.declared.Found.TheVariants.{At}
-use Rattle.words.proofs.Wordwise.{ClearTo, clear_start, clear_up, lowest_word}
+use Prim.Native.Nat.{ℕ, ◌<◌}
+use mathlib.Core.Path.{sym, ◌∙◌, subst}
+use native.Mathlib.Numerals.{add-one}
+use native.Mathlib.Omega.{arith}
+use Rattle.words.specs.Marks.{bit, marked}
+use Rattle.words.specs.Search.{IsLowest, lowest_none}
+use Rattle.words.specs.Laws.{word_at}
+use Rattle.words.proofs.Wordwise.{clear_up, lowest_word}
 use Rattle.words.proofs.Words.lowest.Goals as goal
 
-pub returns-then-self-ne0 : goal.returns-then-self-ne0
-returns-then-self-ne0 c =
+pub returns-then-self-k-ne0 : goal.returns-then-self-k-ne0
+returns-then-self-k-ne0 c =
     let w = c.args.self in
-    ap At (sym (zero-add c.bottom.result)) ∙ sym (lowest_word w 0 c.bottom.result (lit< tt) c.bottom.ensures (clear_start w))
+    let k = c.loop-k.k in
+    let l : k < 4 = omega arith in
+    sym (lowest_word w k c.bottom.result l (subst (λ (x : ℕ). IsLowest (bit x) 64 c.bottom.result) (word_at w k l) c.bottom.ensures) c.loop-k.invariant)
 
-pub returns-then-self-ne0-2 : goal.returns-then-self-ne0-2
-returns-then-self-ne0-2 c =
+pub loop-k-preserved : goal.loop-k-preserved
+loop-k-preserved c =
     let w = c.args.self in
-    sym (lowest_word w 1 c.bottom-then-self-ne0-2.result (lit< tt) c.bottom-then-self-ne0-2.ensures (clear_up w 0 c.if-self-ne0.false (clear_start w)))
-
-pub returns-then-self-ne0-3 : goal.returns-then-self-ne0-3
-returns-then-self-ne0-3 c =
-    let w = c.args.self in
-    sym (lowest_word w 2 c.bottom-then-self-ne0-3.result (lit< tt) c.bottom-then-self-ne0-3.ensures (clear_up w 1 c.if-self-ne0-2.false (clear_up w 0 c.if-self-ne0.false (clear_start w))))
-
-pub returns-then-self-ne0-4 : goal.returns-then-self-ne0-4
-returns-then-self-ne0-4 c =
-    let w = c.args.self in
-    sym (lowest_word w 3 c.bottom-then-self-ne0-4.result (lit< tt) c.bottom-then-self-ne0-4.ensures (clear_up w 2 c.if-self-ne0-3.false (clear_up w 1 c.if-self-ne0-2.false (clear_up w 0 c.if-self-ne0.false (clear_start w)))))
+    let k = c.loop-k.k in
+    rw (add-one k) (clear_up w k (sym (word_at w k (omega arith)) ∙ c.if-self-k-ne0.false) c.loop-k.invariant)
 
 pub returns : goal.returns
-returns c =
-    let w = c.args.self in
-    let z : ClearTo w 4 = clear_up w 3 c.if-self-ne0-4.false (clear_up w 2 c.if-self-ne0-3.false (clear_up w 1 c.if-self-ne0-2.false (clear_up w 0 c.if-self-ne0.false (clear_start w)))) in
-    sym (lowest_none (marked w) 256 z)
+returns c = sym (lowest_none (marked c.args.self) 256 (λ j l. c.loop-k.invariant j (omega arith)))

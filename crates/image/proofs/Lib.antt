@@ -1,0 +1,3 @@
+mod Bytes
+mod FirstCase
+pub mod Read

@@ -1,9 +1,0 @@
--- `image::numbers::number32` meets its contract: the octets are read one by one and put together. Assumes nothing.
-use borrow.Author.Rules.{rules}
-use Rattle.image.specs.Numbers.{number_at}
-use Rattle.image.proofs.numbers.number32.Goals as goal
-
-pub returns : goal.returns
-returns c =
-    let x = c.args in
-    number_at 3 x.at x.l.now c.join32.result (search rules) c.join32.ensures.0 c.join32.ensures.1

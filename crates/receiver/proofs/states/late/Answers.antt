@@ -1,5 +1,0 @@
--- `late` meets its contract, case by case. Assumes nothing.
-use Rattle.receiver.proofs.states.late.Goals as goal
-
-pub returns-in-At : goal.returns-in-At
-returns-in-At c = cc

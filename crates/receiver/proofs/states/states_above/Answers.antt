@@ -1,5 +1,0 @@
--- `states_above` meets its contract, case by case. Assumes nothing.
-use Rattle.receiver.proofs.states.states_above.Goals as goal
-
-pub returns-in-Stated : goal.returns-in-Stated
-returns-in-Stated c = cc c.wide.ensures.0

@@ -1,5 +1,0 @@
--- `sender::Deadline::due` meets its contract: in each arm the value is the variant, and the definition computes. Assumes nothing.
-use Rattle.sender.proofs.Deadline.due.Goals as goal
-
-pub returns-in-At : goal.returns-in-At
-returns-in-At c = cc
