@@ -75,9 +75,23 @@ pub fn read<const W: usize, N: Number<W>>(l: &[u8], at: usize) -> N
     N::join(&octets)
 }
 
+// src whole, at a place where it fits. Where this is compiled in, the length is a constant; by octets::put's length, which is what fits, each of a
+// record's 256 lengths and slots is a call of memcpy (docs/SPEED.md).
+#[inline(always)]
+pub(crate) fn place(dst: &mut [u8], at: usize, src: &[u8])
+    requires { at + length src.now ≤ length dst.old }
+    ensures { dst.new ≡ sets dst.old at src.now }
+{
+    dst[at..at + src.len()].copy_from_slice(src);
+}
+
 // A number put at a place, as far as the octets go.
 pub fn put<const W: usize, N: Number<W>>(dst: &mut [u8], at: usize, x: N)
     ensures { (dst.new ≡ sets dst.old at (spell W (N.number x))) × (N.number x < 256 ^ W) }
 {
-    octets::put(dst, at, &x.octets());
+    if W <= dst.len() && at <= dst.len() - W {
+        place(dst, at, &x.octets());
+    } else {
+        octets::put(dst, at, &x.octets());
+    }
 }

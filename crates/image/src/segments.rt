@@ -5,7 +5,7 @@ ghost use Rattle.std.proofs.lemmas.List.Edits.{sets};
 ghost use Rattle.image.specs.Segments.{length_image, length_from, LengthFits, optional_image, optional_from, services_image, services_from, crc_number, crc_value, crc_image, crc_from, CrcFits, services_in, kind_image, kind_from, kind_of, kind_ok, KindFits, segment_image, segment_of, segment_ok, SegmentFits, head_image, head_of, head_ok, HeadFits};
 
 use crate::cases::{compression_of, crc_status_of, window_of};
-use crate::numbers::{Number, put, read};
+use crate::numbers::{Number, place, put, read};
 use tsar::{MessageCrc, OptionalServices, Segment, SegmentHead, SegmentKind};
 
 pub const KIND_OCTETS: usize = 13;
@@ -180,7 +180,8 @@ pub fn read_kind(l: &[u8]) -> SegmentKind
     )
 }
 
-// The same, where the octets are those of the kind.
+// The same, where the octets are those of the kind. Compiled in: a call gives each of a record's 256 kinds back by way of memory (docs/SPEED.md).
+#[inline(always)]
 pub fn get_kind(l: &[u8]) -> Option<SegmentKind>
     requires { 13 ≤ length l.now }
     ensures { result ≡ then_some (kind_ok l.now) (kind_of l.now) }
@@ -189,14 +190,34 @@ pub fn get_kind(l: &[u8]) -> Option<SegmentKind>
     octets::same(&kind_octets(kind), &l[..KIND_OCTETS]).then_some(kind)
 }
 
+// Compiled in, as get_kind is.
+#[inline(always)]
 pub fn put_kind(dst: &mut [u8], at: usize, kind: SegmentKind)
     ensures { (dst.new ≡ sets dst.old at (kind_image kind)) × KindFits kind }
 {
-    octets::put(dst, at, &kind_octets(kind));
+    if KIND_OCTETS <= dst.len() && at <= dst.len() - KIND_OCTETS {
+        place(dst, at, &kind_octets(kind));
+    } else {
+        octets::put(dst, at, &kind_octets(kind));
+    }
 }
 
 // SEGMENT.
 
+// The segment that octets spell.
+#[tactic(auto, unfolding(crate::specs::Segments::segment_of), using(crate::specs::Spelling::rest_of))]
+pub fn read_segment(l: &[u8]) -> Segment
+    requires { 15 ≤ length l.now }
+    ensures { result ≡ segment_of l.now }
+{
+    Segment {
+        transaction_id: l[0],
+        sequence_number: l[1],
+        kind: read_kind(&l[2..]),
+    }
+}
+
+// The same, where the octets are those of the segment.
 pub fn get_segment(l: &[u8]) -> Option<Segment>
     requires { 15 ≤ length l.now }
     ensures { result ≡ then_some (segment_ok l.now) (segment_of l.now) }
@@ -220,6 +241,20 @@ pub fn put_segment(dst: &mut [u8], at: usize, segment: Segment)
 
 // HEAD.
 
+// The head that octets spell.
+#[tactic(auto, unfolding(crate::specs::Segments::head_of))]
+pub fn read_head(l: &[u8]) -> SegmentHead
+    requires { 23 ≤ length l.now }
+    ensures { result ≡ head_of l.now }
+{
+    let length: u64 = read(l, SEGMENT_OCTETS);
+    SegmentHead {
+        segment: read_segment(l),
+        segment_data_length: length as usize,
+    }
+}
+
+// The same, where the octets are those of the head.
 pub fn get_head(l: &[u8]) -> Option<SegmentHead>
     requires { 23 ≤ length l.now }
     ensures { result ≡ then_some (head_ok l.now) (head_of l.now) }

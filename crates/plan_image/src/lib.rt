@@ -13,7 +13,7 @@ ghost use Rattle.plan_image.specs.Plans.{no_planned, form_number, planned_in, fo
 
 use image::cases::window_of;
 use image::numbers;
-use image::segments::{HEAD_OCTETS, get_head, put_head};
+use image::segments::{HEAD_OCTETS, get_head, put_head, read_head};
 use segmentation::{FrozenMessage, SegmentedMessage};
 use sender::{Plan, PlanForm};
 use tsar::{AcknowledgmentWindow, Segment, SegmentHead, SegmentKind};
@@ -173,11 +173,19 @@ fn form_from(n: u8, p: SegmentedMessage) -> PlanForm
     }
 }
 
+#[tactic(auto, unfolding(crate::specs::Plans::form_of))]
+fn read_form(l: &[u8]) -> PlanForm
+    requires { 44 ≤ length l.now }
+    ensures { result ≡ form_of l.now }
+{
+    form_from(l[0], read_planned(l, 1))
+}
+
 fn get_form(l: &[u8]) -> Option<PlanForm>
     requires { 44 ≤ length l.now }
     ensures { result ≡ then_some (form_ok l.now) (form_of l.now) }
 {
-    let form = form_from(l[0], read_planned(l, 1));
+    let form = read_form(l);
     let mut again = [0u8; FORM_OCTETS];
     put_form(&mut again, 0, form);
     octets::same(&again, &l[..FORM_OCTETS]).then_some(form)
@@ -231,11 +239,19 @@ fn put_front(dst: &mut [u8], at: usize, f: Front)
     put_row(dst, at, Row::from(f));
 }
 
+#[tactic(auto, unfolding(crate::specs::Frozen::front_of))]
+fn read_front(l: &[u8]) -> Front
+    requires { 25 ≤ length l.now }
+    ensures { result ≡ front_of l.now }
+{
+    Front::from(read_row(l, 0))
+}
+
 fn get_front(l: &[u8]) -> Option<Front>
     requires { 25 ≤ length l.now }
     ensures { result ≡ then_some (front_ok l.now) (front_of l.now) }
 {
-    let front = Front::from(read_row(l, 0));
+    let front = read_front(l);
     let mut again = [0u8; FRONT_OCTETS];
     put_front(&mut again, 0, front);
     octets::same(&again, &l[..FRONT_OCTETS]).then_some(front)
@@ -268,7 +284,19 @@ fn put_heads(dst: &mut [u8], at: usize, heads: [SegmentHead; 256])
     }
 }
 
-// The 256 heads that octets begin with.
+// The 256 heads that octets spell.
+pub fn read_heads(l: &[u8]) -> [SegmentHead; 256]
+    requires { 5888 ≤ length l.now }
+    ensures { result ≡ heads_of l.now }
+{
+    let mut heads = [no_head(); MAX_SEGMENTS];
+    for (i, head) in heads.iter_mut().enumerate() {
+        *head = read_head(&l[HEAD_OCTETS * i..]);
+    }
+    heads
+}
+
+// The same, where the octets are those of the heads.
 pub fn get_heads(l: &[u8]) -> Option<[SegmentHead; 256]>
     requires { 5888 ≤ length l.now }
     ensures { result ≡ then_some (heads_ok l.now) (heads_of l.now) }
@@ -288,6 +316,20 @@ fn put_frozen(dst: &mut [u8], at: usize, f: FrozenMessage)
 {
     put_front(dst, at, Front::from(f));
     put_heads(dst, at + FRONT_OCTETS, f.heads);
+}
+
+fn read_frozen(l: &[u8]) -> FrozenMessage
+    requires { 5913 ≤ length l.now }
+    ensures { result ≡ frozen_of l.now }
+{
+    let front = read_front(l);
+    FrozenMessage {
+        heads: read_heads(&l[FRONT_OCTETS..]),
+        count: front.count,
+        message_octets: front.message_octets,
+        payload_budget_octets: front.payload_budget_octets,
+        acknowledgment_window: front.acknowledgment_window,
+    }
 }
 
 fn get_frozen(l: &[u8]) -> Option<FrozenMessage>
@@ -314,7 +356,18 @@ pub fn put_body(dst: &mut [u8], at: usize, plan: Plan)
     put_frozen(dst, at + FORM_OCTETS, plan.frozen);
 }
 
-// The plan whose body octets begin with.
+// The plan whose body octets spell.
+pub fn read_body(l: &[u8]) -> Plan
+    requires { 5957 ≤ length l.now }
+    ensures { result ≡ body_of l.now }
+{
+    Plan {
+        form: read_form(l),
+        frozen: read_frozen(&l[FORM_OCTETS..]),
+    }
+}
+
+// The same, where the octets are those of the body.
 pub fn get_body(l: &[u8]) -> Option<Plan>
     requires { 5957 ≤ length l.now }
     ensures { result ≡ then_some (body_ok l.now) (body_of l.now) }
@@ -333,7 +386,16 @@ pub fn put_plan(dst: &mut [u8], plan: Plan)
     put_body(dst, 1, plan);
 }
 
-// The plan that octets begin with.
+// The plan that octets spell, of whatever version their layout is.
+#[tactic(auto, unfolding(crate::specs::Plans::plan_of), using(image::specs::Spelling::rest_of))]
+pub fn read_plan(l: &[u8]) -> Plan
+    requires { 5958 ≤ length l.now }
+    ensures { result ≡ plan_of l.now }
+{
+    read_body(&l[1..])
+}
+
+// The same, where the octets are those of the plan.
 pub fn get_plan(l: &[u8]) -> Option<Plan>
     requires { 5958 ≤ length l.now }
     ensures { result ≡ then_some (plan_ok l.now) (plan_of l.now) }

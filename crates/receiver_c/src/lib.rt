@@ -37,6 +37,8 @@ fn put_made(record: &mut [u8], given: Call<()>) -> u32
 }
 
 // The receiver that the record spells, where the answer has room for as many octets, or the number that refuses the call.
+// Compiled in, as get_receiver is.
+#[inline(always)]
 fn read_receiver(record: &[u8], answer: &[u8], octets: usize) -> Result<Receiver, u32>
     ensures { result ≡ read_of «record».now answer.now octets }
 {

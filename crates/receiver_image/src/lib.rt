@@ -6,8 +6,8 @@ ghost use Rattle.std.specs.Bool.{then_some};
 ghost use Rattle.std.proofs.lemmas.List.Edits.{sets};
 ghost use Rattle.receiver_image.specs.Images.{image_of, record_of, image_ok, ReceiverFits};
 
-use crate::heads::{get_head, put_head};
-use crate::slots::{LENGTHS, SLOTS, get_lengths, get_slots, put_lengths, put_slots};
+use crate::heads::{get_head, put_head, read_head};
+use crate::slots::{LENGTHS, SLOTS, get_lengths, get_slots, put_lengths, put_slots, read_slots};
 use receiver::{Progress, Receiver, Terms};
 use words::Words;
 
@@ -45,7 +45,24 @@ pub fn put_receiver(dst: &mut [u8], r: Receiver)
     put_slots(dst, r.slots);
 }
 
-// The receiver that octets spell, where they are the octets of that.
+// The receiver that octets spell.
+pub fn read_receiver(l: &[u8]) -> Receiver
+    requires { 3931 ≤ length l.now }
+    ensures { result ≡ record_of l.now }
+{
+    let head = read_head(l);
+    Receiver {
+        terms: head.terms,
+        progress: head.progress,
+        held: head.held,
+        lengths: get_lengths(&l[LENGTHS..]),
+        slots: read_slots(&l[SLOTS..]),
+    }
+}
+
+// The same, where they are the octets of that. Compiled in, as get_slots and the kinds are: a call gives the record back in an Option by way of
+// memory that is zeroed and then copied, layer by layer (docs/SPEED.md).
+#[inline(always)]
 pub fn get_receiver(l: &[u8]) -> Option<Receiver>
     requires { 3931 ≤ length l.now }
     ensures { result ≡ then_some (image_ok l.now) (record_of l.now) }

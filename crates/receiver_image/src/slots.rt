@@ -11,7 +11,7 @@ ghost use Rattle.image.specs.Many.{spell_all, all_pass, AllFit};
 ghost use Rattle.receiver_image.specs.Images.{slot_image, lengths_of, slots_of, LengthFits, SlotFits};
 
 use image::numbers;
-use image::segments::{KIND_OCTETS, get_kind, put_kind};
+use image::segments::{KIND_OCTETS, get_kind, put_kind, read_kind};
 use receiver::Slot;
 use tsar::SegmentKind;
 
@@ -59,6 +59,20 @@ pub fn put_slots(dst: &mut [u8], slots: [Slot; 256])
     }
 }
 
+// The slots that octets spell.
+pub fn read_slots(l: &[u8]) -> [Slot; 256]
+    requires { 3328 ≤ length l.now }
+    ensures { result ≡ slots_of l.now }
+{
+    let mut slots = [NO_SLOT; 256];
+    for (i, slot) in slots.iter_mut().enumerate() {
+        slot.kind = read_kind(&l[KIND_OCTETS * i..]);
+    }
+    slots
+}
+
+// The same, where the octets are those of the slots.
+#[inline(always)]
 pub fn get_slots(l: &[u8]) -> Option<[Slot; 256]>
     requires { 3328 ≤ length l.now }
     ensures { result ≡ then_some (all_pass kind_ok 13 256 l.now) (slots_of l.now) }

@@ -86,6 +86,14 @@ at_end q i e so_far = let z : q.count - i ≡ 0 = omega arith in sym so_far ∙ 
 
 -- ---- the whole
 
+-- the ceiling is no matter of the segments
+pub any_ceiling : (heads : List SegmentHead) (count : ℕ) (joined message : List ℕ) (budget version a b k i : ℕ) → segments_from (record { heads = heads; count = count; joined = joined; message = message; budget = budget; version = version; ceiling = a }) k i ≡ segments_from (record { heads = heads; count = count; joined = joined; message = message; budget = budget; version = version; ceiling = b }) k i
+unfolding segments_from
+any_ceiling heads count joined message budget version a b zero i = refl
+any_ceiling heads count joined message budget version a b (suc k) i =
+    ap (or_else (refusal (segment_rows (record { heads = heads; count = count; joined = joined; message = message; budget = budget; version = version; ceiling = a }) i)))
+    (any_ceiling heads count joined message budget version a b k (suc i))
+
 -- neither the ceiling nor the heads behind the count are a matter of the segments
 alone : (heads : List SegmentHead) (n : ℕ) (joined message : List ℕ) (budget version ceiling k i : ℕ) → 0 < n → i + k ≤ n → segments_from (record { heads = take n heads; count = n; joined = joined; message = message; budget = budget; version = version; ceiling = 0 }) k i ≡ segments_from (record { heads = heads; count = n; joined = joined; message = message; budget = budget; version = version; ceiling = ceiling }) k i
 unfolding segments_from

@@ -3,6 +3,11 @@ use mathlib.Core.Path.{◌≡◌, refl, sym, ap, ap₂, ◌∙◌}
 use mathlib.Core.List.{List, [], ◌∷◌}
 use mathlib.Core.Bool.{Bool, ◌&&◌, and_assoc}
 use lib.Dec.{eqb}
+use lib.ListN.{length, replicate}
+use Prim.Native.Nat.{ℕ}
+use Rattle.std.specs.List.{list_all}
+use Rattle.segmentation.specs.Frozen.{no_head, no_plan}
+use Rattle.segmentation.specs.Heads.{none_kept}
 use lib.Pointwise.{pointwise}
 use Rattle.std.specs.Prelude.{Some, None}
 use Rattle.std.proofs.Common.{rules}
@@ -30,7 +35,7 @@ use Rattle.sender.specs.TryNew.{same_head, same_heads, same_frozen}
 five : (a b c d e : Bool) → (a && (b && (c && (d && e)))) ≡ (a && b && c && d && e)
 five a b c d e = simp and_assoc
 
-windows_same : (v w : AcknowledgmentWindow) → windows.ghosts.eq v w ≡ eqb (window_number v) (window_number w)
+pub windows_same : (v w : AcknowledgmentWindow) → windows.ghosts.eq v w ≡ eqb (window_number v) (window_number w)
 windows_same v w = search rules
 
 compressions_same : (v w : Compression) → compressions.ghosts.eq v w ≡ eqb (compression_number v) (compression_number w)
@@ -66,7 +71,7 @@ kinds_same (kind'.End m (Some (crc.Crc16 v))) (kind'.End n (Some (crc.Crc24 w)))
 kinds_same (kind'.End m (Some (crc.Crc24 v))) (kind'.End n (Some (crc.Crc16 w))) = refl
 kinds_same (kind'.End m (Some (crc.Crc24 v))) (kind'.End n (Some (crc.Crc24 w))) = refl
 
-head_same : (g h : SegmentHead) → heads.ghosts.eq g h ≡ same_head g h
+pub head_same : (g h : SegmentHead) → heads.ghosts.eq g h ≡ same_head g h
 head_same g h =
     let t = eqb g.segment.transaction_id h.segment.transaction_id in
     let s = eqb g.segment.sequence_number h.segment.sequence_number in
@@ -87,3 +92,12 @@ frozen_same f g =
     let b = eqb f.payload_budget_octets g.payload_budget_octets in
     ap₂ (λ (x y : Bool). x && (n && (o && (b && y)))) (heads_same f.heads g.heads) (windows_same f.acknowledgment_window g.acknowledgment_window)
     ∙ five (same_heads f.heads g.heads) n o b (eqb (window_number f.acknowledgment_window) (window_number g.acknowledgment_window))
+
+-- heads that are all empty, as many as a plan has
+all_none : (hs : List SegmentHead) → list_all (same_head no_head) hs ≡ same_heads (replicate (length hs) no_head) hs
+unfolding same_heads
+all_none [] = refl
+all_none (h ∷ hs) = ap (λ (b : Bool). same_head no_head h && b) (all_none hs)
+
+pub heads_none : (hs : List SegmentHead) → length hs ≡ 256 → list_all (same_head no_head) hs ≡ same_heads no_plan.heads hs
+heads_none hs e = all_none hs ∙ ap (λ (n : ℕ). same_heads (replicate n no_head) hs) e ∙ ap (λ (gs : List SegmentHead). same_heads gs hs) (none_kept no_head refl)

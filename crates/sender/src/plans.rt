@@ -1,14 +1,28 @@
 // Plans: what a sender sends, and when a record is a plan of a message (40).
 ghost use Rattle.std.specs.Prelude.{◌≡◌, length};
-ghost use Rattle.segmentation.specs.Frozen.{no_plan, try_from_frozen};
+ghost use Rattle.std.specs.List.{list_all};
+ghost use Rattle.segmentation.specs.Frozen.{no_head, no_plan, try_from_frozen};
 ghost use Rattle.sender.specs.Record.{outline_of, plan_octets, plan_budget, plan_count, plan_window};
-ghost use Rattle.sender.specs.TryNew.{same_plan, is_planned, proposing, is_frozen, same_frozen, is_given, plan_segment};
+ghost use Rattle.sender.specs.TryNew.{same_plan, is_planned, proposing, is_frozen, same_head, same_frozen, is_empty, is_given, plan_segment};
 
 use crate::{Outline, PV1, Plan, PlanForm};
 use segmentation::frozen::{no_plan, try_from_frozen};
 use segmentation::plan::plan_message;
 use segmentation::{FrozenMessage, MessagePlan, PlannedPart, SegmentedMessage};
-use tsar::AcknowledgmentWindow;
+use tsar::{AcknowledgmentWindow, Segment, SegmentHead, SegmentKind};
+
+// The empty head: those of a plan of no segments.
+const NO_HEAD: SegmentHead = SegmentHead {
+    segment: Segment {
+        transaction_id: 0,
+        sequence_number: 0,
+        kind: SegmentKind::Begin {
+            message_length: None,
+            services: None,
+        },
+    },
+    segment_data_length: 0,
+};
 
 // Whether two plans of the planners are the same.
 fn same_plan(p: SegmentedMessage, q: SegmentedMessage) -> bool
@@ -18,10 +32,41 @@ fn same_plan(p: SegmentedMessage, q: SegmentedMessage) -> bool
 }
 
 // Whether two plans of the frozen check are the same.
-fn same_frozen(f: FrozenMessage, g: FrozenMessage) -> bool
-    ensures { result ≡ same_frozen f g }
+fn same_frozen(f: &FrozenMessage, g: &FrozenMessage) -> bool
+    ensures { result ≡ same_frozen f.now g.now }
 {
     f == g
+}
+
+fn is_no_head(head: SegmentHead) -> bool
+    ensures { result ≡ same_head no_head head }
+{
+    NO_HEAD == head
+}
+
+fn are_no_heads(heads: &[SegmentHead]) -> bool
+    ensures { result ≡ list_all (same_head no_head) heads.now }
+{
+    heads.iter().all(|head| is_no_head(*head))
+}
+
+// Whether it is the plan of no segments. No such plan is made for it: that would take most of the time of a new sender.
+fn is_empty(f: &FrozenMessage) -> bool
+    ensures { result ≡ is_empty f.now }
+{
+    if !are_no_heads(&f.heads) {
+        return false;
+    }
+    if 0 != f.count {
+        return false;
+    }
+    if 0 != f.message_octets {
+        return false;
+    }
+    if 0 != f.payload_budget_octets {
+        return false;
+    }
+    AcknowledgmentWindow::Prohibited == f.acknowledgment_window
 }
 
 // Whether one of the planners gives the plan for the message: plan_message's plan, or the same spread evenly.
@@ -54,7 +99,7 @@ fn is_frozen(f: FrozenMessage, message: &[u8]) -> bool
         PV1,
         f.payload_budget_octets,
     );
-    checked.answer.is_ok() && same_frozen(checked.plan, f)
+    checked.answer.is_ok() && same_frozen(&checked.plan, &f)
 }
 
 impl Plan {
@@ -150,7 +195,7 @@ impl Plan {
         ensures { result ≡ is_given self message.now }
     {
         match self.form {
-            PlanForm::Planned(p) => is_planned(p, message) && same_frozen(no_plan(), self.frozen),
+            PlanForm::Planned(p) => is_planned(p, message) && is_empty(&self.frozen),
             PlanForm::Frozen => is_frozen(self.frozen, message),
         }
     }

@@ -111,6 +111,17 @@ Steps P image answer c =
     (tests : List (Bool × Refusal)) (step : Step) → ((r : Result Sent ℕ) → P (record_of image) r → stepped r ≡ tested tests step)
     → Met (state_tests image answer ++ tests) image answer step c
 
+-- a call that hands the record's sender to a step that refuses by no number, of whose results P holds: if these are what a definition says, behind
+-- tests that none refuses, so is the call
+abbrev pub Moves : (Sender → Sent → Type 0) → List ℕ → List ℕ → Call → Type 0
+Moves P image answer c =
+    (tests : List (Bool × Refusal)) (step : Step) → refusal tests ≡ None → ((x : Sent) → P (record_of image) x → sent x ≡ step)
+    → Met (state_tests image answer ++ tests) image answer step c
+
+-- the result of a step that a number refuses, whatever sender it is handed
+abbrev pub refused_by : ℕ → Sender → Result Sent ℕ → Type 0
+refused_by n s r = r ≡ Err n
+
 -- ---- catkhize_sender_lower_failed
 
 -- its own test

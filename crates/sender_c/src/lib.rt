@@ -3,13 +3,11 @@
 
 ghost use Rattle.std.specs.Prelude.{◌≡◌, [], ◌≤◌, length};
 ghost use Rattle.std.proofs.lemmas.List.Edits.{sets};
-ghost use Rattle.sender.specs.Calls.{lower_failed_of, receive_response_of};
 ghost use Rattle.sender.specs.Says.{sender_says, sent};
 ghost use Rattle.sender.specs.TryNew.{offer_of};
 ghost use Rattle.sender_image.specs.Images.{record_of};
-ghost use Rattle.image.specs.Cases.{protocol_of};
-ghost use Rattle.sender_answers.specs.Answers.{answer_code, failure_of};
-ghost use Rattle.sender_c.specs.Calls.{call, state_octets, step_call, read_of, stepped, tested, Steps, Spelled, Met, state_tests, failed_own, brought_by, advance_step, cancel_step, submitted_step, accepted_step, failed_tests, failed_step, response_tests, arrival_of, response_step, new_tests, terms_of, new_step, made_call, MadeSpells, NewMet, offer_tests, offer_call};
+ghost use Rattle.sender_answers.specs.Answers.{answer_code};
+ghost use Rattle.sender_c.specs.Calls.{call, state_octets, step_call, read_of, Steps, Moves, refused_by, Spelled, Met, state_tests, advance_step, cancel_step, submitted_step, accepted_step, failed_tests, failed_step, response_tests, arrival_of, response_step, new_tests, terms_of, new_step, made_call, MadeSpells, NewMet, offer_tests, offer_call};
 
 use codec_c::codes::{DONE, MISSPELLED, SHORT, UNNAMED};
 use image::cases::protocol_of;
@@ -59,18 +57,33 @@ fn put_sent(record: &mut [u8], answer: &mut [u8], given: Sent) -> u32
     put_answer(answer, said)
 }
 
-// The call of a step that answers STATE: it is handed the sender that the record spells, and may refuse it by a number.
-fn on_sender<F: FnOnce(Sender) -> Result<Sent, u32>>(
-    record: &mut [u8],
-    answer: &mut [u8],
-    step: F,
-) -> u32
-    requires { F.IsAlwaysCallable step }
-    ensures { Steps (F.post step) «record».old answer.old (call result «record».new answer.new) }
+// The number of a call that CODE refuses behind the tests of the record and the answer.
+fn refuse(record: &[u8], answer: &[u8], code: u32) -> u32
+    ensures { Steps (refused_by code) «record».now answer.now (call result «record».now answer.now) }
 {
-    match read_sender(record, answer, STATE_OCTETS).and_then(step) {
+    match read_sender(record, answer, STATE_OCTETS) {
+        Err(earlier) => earlier,
+        Ok(_) => code,
+    }
+}
+
+// What a step gives. It has a frame of its own, so that the sender's copies in it lie on no stack beside those of reading and writing it.
+#[inline(never)]
+fn taken<F: FnOnce(Sender) -> Sent>(sender: Sender, step: F) -> Sent
+    requires { F.IsAlwaysCallable step }
+    ensures { F.post step sender result }
+{
+    step(sender)
+}
+
+// The call of a step that answers STATE: it is handed the sender that the record spells.
+fn on_sender<F: FnOnce(Sender) -> Sent>(record: &mut [u8], answer: &mut [u8], step: F) -> u32
+    requires { F.IsAlwaysCallable step }
+    ensures { Moves (F.post step) «record».old answer.old (call result «record».new answer.new) }
+{
+    match read_sender(record, answer, STATE_OCTETS) {
         Err(code) => code,
-        Ok(given) => put_sent(record, answer, given),
+        Ok(sender) => put_sent(record, answer, taken(sender, step)),
     }
 }
 
@@ -133,14 +146,14 @@ pub fn catkhize_sender_new(
 pub fn catkhize_sender_advance(record: &mut [u8], reading: u64, answer: &mut [u8]) -> u32
     ensures { Met (state_tests «record».old answer.old) «record».old answer.old (advance_step «record».old reading) (call result «record».new answer.new) }
 {
-    on_sender(record, answer, |s| Ok(s.advance(reading)))
+    on_sender(record, answer, |s| s.advance(reading))
 }
 
 // Ends an open sender.
 pub fn catkhize_sender_cancel(record: &mut [u8], reading: u64, answer: &mut [u8]) -> u32
     ensures { Met (state_tests «record».old answer.old) «record».old answer.old (cancel_step «record».old reading) (call result «record».new answer.new) }
 {
-    on_sender(record, answer, |s| Ok(s.cancel(reading)))
+    on_sender(record, answer, |s| s.cancel(reading))
 }
 
 // Layer 3 took the submission at the reading queued, which is seen at the reading observed.
@@ -155,7 +168,7 @@ pub fn catkhize_sender_submitted(
     ensures { Met (state_tests «record».old answer.old) «record».old answer.old (submitted_step «record».old number ticket queued observed) (call result «record».new answer.new) }
 {
     on_sender(record, answer, |s| {
-        Ok(s.submitted(number, ticket, queued, observed))
+        s.submitted(number, ticket, queued, observed)
     })
 }
 
@@ -169,9 +182,7 @@ pub fn catkhize_sender_accepted(
 ) -> u32
     ensures { Met (state_tests «record».old answer.old) «record».old answer.old (accepted_step «record».old number ticket reading) (call result «record».new answer.new) }
 {
-    on_sender(record, answer, |s| {
-        Ok(s.accepted(number, ticket, reading))
-    })
+    on_sender(record, answer, |s| { s.accepted(number, ticket, reading) })
 }
 
 // Layer 3 gave the submission up.
@@ -186,18 +197,12 @@ pub fn catkhize_sender_lower_failed(
 ) -> u32
     ensures { Met (failed_tests «record».old failure answer.old) «record».old answer.old (failed_step «record».old number ticket failure cause reading) (call result «record».new answer.new) }
 {
-    on_sender(
-        record,
-        answer,
-        |s|
-            ensures { stepped result ≡ tested (failed_own failure) (lower_failed_of s number ticket (failure_of failure cause) reading) }
-        {
-            if MAX_FAILURE < failure {
-                return Err(UNNAMED);
-            }
-            Ok(s.lower_failed(number, ticket, failure_of(failure, cause), reading))
-        },
-    )
+    if MAX_FAILURE < failure {
+        return refuse(record, answer, UNNAMED);
+    }
+    on_sender(record, answer, |s| {
+        s.lower_failed(number, ticket, failure_of(failure, cause), reading)
+    })
 }
 
 // Takes the response of the peer that RESPONSE spells, with the number of bits that its decoding left.
@@ -218,26 +223,21 @@ pub fn catkhize_sender_receive_response(
     if response.len() < RESPONSE_OCTETS {
         return SHORT;
     }
-    let brought = get_response(response);
+    let Some(received) = get_response(response) else {
+        return refuse(record, answer, MISSPELLED);
+    };
+    if MAX_PROTOCOL < protocol {
+        return refuse(record, answer, UNNAMED);
+    }
     let peer = MobileIdentity {
         kind: peer_kind,
         width: peer_width,
         value: peer_value,
     };
-    on_sender(
-        record,
-        answer,
-        |s|
-            ensures { stepped result ≡ brought_by brought protocol (λ r. receive_response_of s (record { peer = peer; protocol = protocol_of protocol protocol_octet; response = r; unparsed = unparsed; reading = reading })) }
-        {
-            let received = brought.ok_or(MISSPELLED)?;
-            if MAX_PROTOCOL < protocol {
-                return Err(UNNAMED);
-            }
-            let service = protocol_of(protocol, protocol_octet);
-            Ok(s.receive_response(peer, service, received, unparsed as usize, reading))
-        },
-    )
+    let service = protocol_of(protocol, protocol_octet);
+    on_sender(record, answer, |s| {
+        s.receive_response(peer, service, received, unparsed as usize, reading)
+    })
 }
 
 // What is offered to Layer 3 now: answers SUBMISSION, and changes nothing else.

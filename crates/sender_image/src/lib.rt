@@ -6,8 +6,8 @@ ghost use Rattle.std.specs.Bool.{then_some};
 ghost use Rattle.std.proofs.lemmas.List.Edits.{sets};
 ghost use Rattle.sender_image.specs.Images.{image_of, record_of, image_ok, SenderFits};
 
-use crate::heads::{get_head, put_head};
-use plan_image::{get_body, put_body};
+use crate::heads::{get_head, put_head, read_head};
+use plan_image::{get_body, put_body, read_body};
 use sender::{Progress, Sender, Terms};
 
 pub mod heads;
@@ -46,7 +46,20 @@ pub fn put_sender(dst: &mut [u8], s: Sender)
     put_body(dst, PLAN, s.plan);
 }
 
-// The sender that octets spell, where they are the octets of that.
+// The sender that octets spell.
+pub fn read_sender(l: &[u8]) -> Sender
+    requires { 6131 ≤ length l.now }
+    ensures { result ≡ record_of l.now }
+{
+    let head = read_head(l);
+    Sender {
+        terms: head.terms,
+        progress: head.progress,
+        plan: read_body(&l[PLAN..]),
+    }
+}
+
+// The same, where they are the octets of that.
 pub fn get_sender(l: &[u8]) -> Option<Sender>
     requires { 6131 ≤ length l.now }
     ensures { result ≡ then_some (image_ok l.now) (record_of l.now) }

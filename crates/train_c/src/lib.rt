@@ -4,15 +4,14 @@
 ghost use Rattle.std.specs.Prelude.{◌≡◌, ◌||◌, not, ◌+◌, ◌/◌, ◌≤◌, min, length, take, drop};
 ghost use Rattle.std.proofs.lemmas.List.Edits.{sets};
 ghost use Rattle.receiver.specs.Record.{taking as taking_of};
-ghost use Rattle.receiver.specs.Says.{received};
-ghost use Rattle.train_c.specs.Walk.{carries as carries_of, segments_of, start_of, train_step, train_of, walked};
+ghost use Rattle.train_c.specs.Walk.{carries as carries_of, segments_of, start_of, train_of, walked};
 ghost use Rattle.train_c.specs.Calls.{call, train_image, Met};
 
 use codec_c::codes::{DONE, MISSPELLED, SHORT, UNNAMED};
 use image::cases::protocol_of;
 use image::numbers;
 use link::{HigherLayerProtocol, MobileIdentity};
-use receiver::{Call, ReceiveError, Receiver, ReceiverState, Reception};
+use receiver::{ReceiveError, Receiver, ReceiverState, Reception};
 use receiver_answers::{RECEPTION_OCTETS, error_code, put_received};
 use receiver_image::{RECEIVER_OCTETS, get_receiver, put_receiver};
 use tsar::HEADER_OCTETS;
@@ -68,39 +67,6 @@ fn stops(reception: Reception, state: ReceiverState) -> bool
     carries(reception) || !state.is_taking()
 }
 
-// A segment is decoded under the receiver's version and received.
-fn step(
-    receiver: Receiver,
-    peer: MobileIdentity,
-    protocol: HigherLayerProtocol,
-    octets: &[u8],
-    reading: u64,
-    store: &mut [u8],
-    output: &mut [u8],
-) -> Call<Reception>
-    ensures { received result store.new output.new ≡ train_step peer protocol reading receiver octets.now store.old output.old }
-{
-    match decode_segment(octets, receiver.terms.version) {
-        Err(e) => Call {
-            answer: Err(ReceiveError::Codec(e)),
-            receiver,
-        },
-        Ok(decoded) => {
-            let end = HEADER_OCTETS + decoded.head.segment_data_length;
-            receiver.receive(
-                peer,
-                protocol,
-                decoded.head.segment,
-                &octets[HEADER_OCTETS..end],
-                decoded.unparsed_octets,
-                reading,
-                store,
-                output,
-            )
-        }
-    }
-}
-
 // The segments of a train one after another, up to the first that is refused, or whose reception ends the train.
 fn walk(
     mut receiver: Receiver,
@@ -124,27 +90,49 @@ fn walk(
         let length: u16 = numbers::read(lengths, LENGTH_OCTETS * i);
         let n = usize::from(length);
         let segment = part(octets, at, n);
-        let out = step(receiver, peer, protocol, segment, reading, store, output);
-        receiver = out.receiver;
-        match out.answer {
+        match decode_segment(segment, receiver.terms.version) {
             Err(e) => {
                 return Walked {
-                    code: error_code(e),
+                    code: error_code(ReceiveError::Codec(e)),
                     received: i as u64,
                     reception,
                     receiver,
                 };
             }
-            Ok(last) => reception = last,
-        }
-        at = next(octets.len(), at, n);
-        if stops(reception, receiver.progress.state) {
-            return Walked {
-                code: DONE,
-                received: (i + 1) as u64,
-                reception,
-                receiver,
-            };
+            Ok(decoded) => {
+                let end = HEADER_OCTETS + decoded.head.segment_data_length;
+                let out = receiver.receive(
+                    peer,
+                    protocol,
+                    decoded.head.segment,
+                    &segment[HEADER_OCTETS..end],
+                    decoded.unparsed_octets,
+                    reading,
+                    store,
+                    output,
+                );
+                receiver = out.receiver;
+                match out.answer {
+                    Err(e) => {
+                        return Walked {
+                            code: error_code(e),
+                            received: i as u64,
+                            reception,
+                            receiver,
+                        };
+                    }
+                    Ok(last) => reception = last,
+                }
+                at = next(octets.len(), at, n);
+                if stops(reception, receiver.progress.state) {
+                    return Walked {
+                        code: DONE,
+                        received: (i + 1) as u64,
+                        reception,
+                        receiver,
+                    };
+                }
+            }
         }
     }
     Walked {

@@ -6,13 +6,15 @@ use mathlib.Core.Path.{◌≡◌, refl, ap, sym, ◌∙◌}
 use Prim.Native.Nat.{ℕ, ◌+◌, ◌*◌, ◌/◌, ◌-◌, ◌≤◌, min}
 use native.Mathlib.Nat.{sub-zero}
 use native.Mathlib.Omega.{arith}
-use lib.ListN.{length, drop}
-use Rattle.receiver.specs.Answers.{Step}
+use lib.ListN.{length, take, drop}
+use Rattle.tsar.specs.Numbers.{number}
+use Rattle.tsar.proofs.Told.{told_within}
+use Rattle.receiver.specs.Answers.{Step, refuses}
 use Rattle.receiver.specs.Says.{receive_says, received}
-use Rattle.train_c.specs.Walk.{Train, train, segments_of, start_of, train_of, after}
-use Rattle.train_c.specs.Laws.{train_ends, train_turn, train_stops, train_carries, train_goes}
+use Rattle.train_c.specs.Walk.{Train, train, segments_of, start_of, train_step, train_of, after}
+use Rattle.train_c.specs.Laws.{step_refused, step_decoded, train_ends, train_turn, train_stops, train_carries, train_goes}
 use Rattle.train_c.proofs.walk.Goals as goal
-use Rattle.train_c.proofs.walk.Goals.{After-step-out, At-loop-i, Start}
+use Rattle.train_c.proofs.walk.Goals.{After-part-segment, After-receive-out, At-loop-i, In-Ok, Start}
 
 -- where the train stands at a turn, the whole train, and what is left of it after a turn
 abbrev stands : At-loop-i → Train
@@ -22,7 +24,7 @@ abbrev whole_train : Start → Train
 whole_train s =
     train_of s.args.peer s.args.protocol s.args.reading (segments_of (length s.args.lengths.now / 2) s.args.lengths.now s.args.octets.now) (start_of s.args.receiver s.args.store.now s.args.output.now)
 
-abbrev left : After-step-out → Train → Train
+abbrev left : After-part-segment → Train → Train
 left w =
     let x = w.args in
     let l = w.loop-i in
@@ -30,17 +32,36 @@ left w =
     (segments_of (length x.lengths.now / 2 - (l.i + 1)) (drop (2 * (l.i + 1)) x.lengths.now) (drop (min (l.at + w.from-n.result) (length x.octets.now)) x.octets.now))
 
 -- a turn: what the step of its segment makes of the train
-abbrev step : After-step-out → Step
-step b = received b.step-out.result b.step-out.new.store b.step-out.new.output
-
-turn : (b : After-step-out)
-    → after (left b) (train 0 b.loop-i.receiver b.loop-i.store b.loop-i.output b.loop-i.i b.loop-i.reception.response b.loop-i.reception.message) (step b).answer (step b).receiver (step b).store (step b).output
+abbrev Turns : After-part-segment → Step → Type 0
+Turns b s =
+    after (left b) (train 0 b.loop-i.receiver b.loop-i.store b.loop-i.output b.loop-i.i b.loop-i.reception.response b.loop-i.reception.message) s.answer s.receiver s.store s.output
     ≡ train_of b.args.peer b.args.protocol b.args.reading (segments_of (length b.args.lengths.now / 2) b.args.lengths.now b.args.octets.now) (start_of b.args.receiver b.args.store.now b.args.output.now)
-turn b =
+
+turn : (b : After-part-segment) (s : Step) → s ≡ train_step b.args.peer b.args.protocol b.args.reading b.loop-i.receiver b.part-segment.result.now b.loop-i.store b.loop-i.output → Turns b s
+turn b s q =
     let x = b.args in
     let l = b.loop-i in
-    train_turn x.peer x.protocol x.reading x.lengths.now x.octets.now (length x.lengths.now / 2) l.i l.at b.from-n.result b.part-segment.result.now (train 0 l.receiver l.store l.output l.i l.reception.response l.reception.message) (step b)
-    (train_of x.peer x.protocol x.reading (segments_of (length x.lengths.now / 2) x.lengths.now x.octets.now) (start_of x.receiver x.store.now x.output.now)) b.loop-i-test.true (b.from-n.ensures ∙ b.read-length.ensures.reads) b.part-segment.ensures b.step-out.ensures l.invariant.2
+    train_turn x.peer x.protocol x.reading x.lengths.now x.octets.now (length x.lengths.now / 2) l.i l.at b.from-n.result b.part-segment.result.now (train 0 l.receiver l.store l.output l.i l.reception.response l.reception.message) s
+    (train_of x.peer x.protocol x.reading (segments_of (length x.lengths.now / 2) x.lengths.now x.octets.now) (start_of x.receiver x.store.now x.output.now)) b.loop-i-test.true (b.from-n.ensures ∙ b.read-length.ensures.reads) b.part-segment.ensures q l.invariant.2
+
+-- the step of a segment that is decoded
+abbrev step : After-receive-out → Step
+step b = received b.receive-out.result b.receive-out.new.store b.receive-out.new.output
+
+stepped : (b : After-receive-out) → step b ≡ train_step b.args.peer b.args.protocol b.args.reading b.loop-i.receiver b.part-segment.result.now b.loop-i.store b.loop-i.output
+stepped b =
+    let x = b.args in
+    let l = b.loop-i in
+    let o = b.part-segment.result.now in
+    let n = b.in-Ok.decoded.head.segment_data_length in
+    let k : 3 + n - 3 ≡ n = omega arith in
+    b.receive-out.ensures
+    ∙ step_decoded x.peer x.protocol x.reading l.receiver o l.store l.output b.decode_segment.result b.in-Ok.decoded (take (3 + n - 3) (drop 3 o)) b.in-Ok.is b.decode_segment.ensures
+    (ap (λ (m : ℕ). take m (drop 3 o)) k)
+
+-- the data of a segment that was decoded lie within its octets
+data_there : (c : In-Ok) → 3 + c.in-Ok.decoded.head.segment_data_length ≤ length c.part-segment.result.now
+data_there c = told_within c.loop-i.receiver.terms.version c.part-segment.result.now c.decode_segment.result c.in-Ok.decoded c.decode_segment.ensures c.in-Ok.is
 
 pub loop-i-init : goal.loop-i-init
 loop-i-init c =
@@ -49,22 +70,41 @@ loop-i-init c =
 
 pub returns-in-Err : goal.returns-in-Err
 returns-in-Err c =
-    let w = (goal.at.returns-in-Err c).After-step-out in
-    train_stops (left w) (stands (goal.at.returns-in-Err c).At-loop-i) (step w) (whole_train (goal.at.returns-in-Err c).Start) _ c.error_code.result (turn w) (ap receive_says c.in-Err.is) c.error_code.ensures
+    let x = c.args in
+    let l = c.loop-i in
+    let e = c.in-Err.e in
+    let w = (goal.at.returns-in-Err c).After-part-segment in
+    let s = refuses (number e) l.receiver l.store l.output in
+    train_stops (left w) (stands (goal.at.returns-in-Err c).At-loop-i) s (whole_train (goal.at.returns-in-Err c).Start) (number e) c.error_code.result
+    (turn w s (step_refused x.peer x.protocol x.reading l.receiver c.part-segment.result.now l.store l.output c.decode_segment.result e c.in-Err.is c.decode_segment.ensures)) refl c.error_code.ensures
+
+pub overflow_add-end : goal.overflow_add-end
+overflow_add-end c = omega (arith, data_there (goal.at.overflow_add-end c).In-Ok)
+
+pub slice_bounds-receive-end : goal.slice_bounds-receive-end
+slice_bounds-receive-end c = data_there (goal.at.slice_bounds-receive-end c).In-Ok
+
+pub returns-in-Err-answer : goal.returns-in-Err-answer
+returns-in-Err-answer c =
+    let w = (goal.at.returns-in-Err-answer c).After-part-segment in
+    let b = (goal.at.returns-in-Err-answer c).After-receive-out in
+    train_stops (left w) (stands (goal.at.returns-in-Err-answer c).At-loop-i) (step b) (whole_train (goal.at.returns-in-Err-answer c).Start) _ c.error_code-in-Err-answer.result (turn w (step b) (stepped b)) (ap receive_says c.in-Err-answer.is) c.error_code-in-Err-answer.ensures
 
 pub returns-then-stops : goal.returns-then-stops
 returns-then-stops c =
-    let w = (goal.at.returns-then-stops c).After-step-out in
-    let m = c.in-Ok.last in
-    train_carries (left w) (stands (goal.at.returns-then-stops c).At-loop-i) (step w) (whole_train (goal.at.returns-then-stops c).Start) m.response m.message (turn w) (ap receive_says c.in-Ok.is) (sym c.stops.ensures ∙ c.if-stops.true)
+    let w = (goal.at.returns-then-stops c).After-part-segment in
+    let b = (goal.at.returns-then-stops c).After-receive-out in
+    let m = c.in-Ok-answer.last in
+    train_carries (left w) (stands (goal.at.returns-then-stops c).At-loop-i) (step b) (whole_train (goal.at.returns-then-stops c).Start) m.response m.message (turn w (step b) (stepped b)) (ap receive_says c.in-Ok-answer.is) (sym c.stops.ensures ∙ c.if-stops.true)
 
 pub loop-i-preserved : goal.loop-i-preserved
 loop-i-preserved c =
     let x = c.args in
     let l = c.loop-i in
-    let w = (goal.at.loop-i-preserved c).After-step-out in
-    let s = step w in
-    let m = c.in-Ok.last in (
+    let w = (goal.at.loop-i-preserved c).After-part-segment in
+    let b = (goal.at.loop-i-preserved c).After-receive-out in
+    let s = step b in
+    let m = c.in-Ok-answer.last in (
       l.invariant.0,
       l.invariant.1,
       ap
@@ -73,7 +113,7 @@ loop-i-preserved c =
           (segments_of (length x.lengths.now / 2 - (l.i + 1)) (drop (2 * (l.i + 1)) x.lengths.now) (drop k x.octets.now))
           (train 0 s.receiver s.store s.output (l.i + 1) m.response m.message))
           c.next-at.ensures
-          ∙ train_goes (left w) (stands (goal.at.loop-i-preserved c).At-loop-i) s (whole_train (goal.at.loop-i-preserved c).Start) m.response m.message (turn w) (ap receive_says c.in-Ok.is) (sym c.stops.ensures ∙ c.if-stops.false),
+          ∙ train_goes (left w) (stands (goal.at.loop-i-preserved c).At-loop-i) s (whole_train (goal.at.loop-i-preserved c).Start) m.response m.message (turn w s (stepped b)) (ap receive_says c.in-Ok-answer.is) (sym c.stops.ensures ∙ c.if-stops.false),
     )
 
 -- no segment is left
